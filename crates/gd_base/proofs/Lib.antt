@@ -1,0 +1,3 @@
+pub mod Smalls
+pub mod Waits
+pub mod Writes

@@ -1,0 +1,10 @@
+pub mod Causes
+pub mod Content
+pub mod Errors
+pub mod Events
+pub mod Memory
+pub mod Names
+pub mod Pages
+pub mod Small
+pub mod Streams
+pub mod Views
