@@ -20,3 +20,6 @@ pub use pages::{Page, flush, put};
 pub use small::SmallVault;
 pub use streams::{Sink, write_all};
 pub use vaults::{FileId, Mode, Vault};
+
+#[cfg(test)]
+mod tests;
