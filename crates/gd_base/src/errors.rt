@@ -3,6 +3,8 @@
 ghost use Rattle.std.specs.Prelude.{◌≡◌};
 ghost use Rattle.gd_base.specs.Errors.{number_of, name_of};
 
+use thiserror::Error;
+
 /// A call of a device failed.
 #[derive(Clone, Copy, Debug, PartialEq, Eq)]
 pub struct Failed;
@@ -12,10 +14,11 @@ pub struct Failed;
 pub struct OutOfMemory;
 
 /// Why a file was not added to a vault in memory.
-#[derive(Clone, Copy, Debug, PartialEq, Eq)]
+#[derive(Clone, Copy, Debug, PartialEq, Eq, Error)]
 pub enum AddError {
-    /// The name stands for a file.
+    #[error("the name stands for a file")]
     Exists,
+    #[error("out of memory")]
     OutOfMemory,
 }
 
@@ -56,7 +59,7 @@ pub enum DbError {
     BadHashTable(u64),
     /// The address of a bucket, and the number of a slot of it.
     BadHashEntry(u64, u32),
-    /// The address of a table or block of free space, or of an extent.
+    /// The address of a table or block of free space, of a bucket, or of an extent.
     BadAvail(u64),
     NeedRecovery,
     ReaderCant,

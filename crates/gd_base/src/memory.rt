@@ -1,6 +1,6 @@
 //! A sink in memory, with a list of the calls that are to fail.
 
-ghost use Rattle.std.specs.Prelude.{◌≡◌, ◌⊎◌, ◌<◌, [], length, Some, Contains, OnErr};
+ghost use Rattle.std.specs.Prelude.{◌≡◌, ◌⊎◌, ◌<◌, ◌≤◌, ◌+◌, ◌-◌, ◌^◌, [], length, min, Some, Contains, IsErr, OnErr, OnOk};
 ghost use Rattle.gd_base.specs.Causes.{HasCause, Rose};
 ghost use Rattle.gd_base.specs.Streams.{Writes};
 
@@ -73,6 +73,11 @@ impl Sink for MemSink {
         ensures cause { HasCause self.old.faults self.new.faults result }
         ensures kept { Unit {0} }
         ensures fails { OnErr result (Contains self.old.fails self.old.calls ⊎ Rose self.old.starved self.new.starved) }
+        ensures listed { Contains self.old.fails self.old.calls → IsErr result × (self.new.starved ≡ self.old.starved) }
+        ensures fed { OnOk result (self.new.starved ≡ self.old.starved) }
+        ensures starved { self.old.starved ≤ self.new.starved }
+        ensures counted { self.new.calls ≡ min (self.old.calls + 1) (2 ^ 64 - 1) }
+        ensures list { self.new.fails ≡ self.old.fails }
     {
         let call = self.calls;
         self.calls = call.saturating_add(1);

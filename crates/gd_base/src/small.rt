@@ -99,6 +99,7 @@ impl SmallVault {
         ensures added { IfOk result (λ f. AddsFile name bytes f.0 (content_of_files self.old.files) (content_of_files self.new.files)) }
         ensures exists { IsErrOf result AddError.Exists ↔ ((content_of_files self.old.files).names name ≢ None) }
         ensures refused { OnErr result (self.new ≡ self.old) }
+        ensures rest { (self.new.faults ≡ self.old.faults) × (self.new.reads ≡ self.old.reads) }
     {
         if place_of(&self.files, name.as_str().as_bytes()).is_some() {
             return Err(AddError::Exists);

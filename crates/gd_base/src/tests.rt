@@ -47,20 +47,40 @@ fn names_are_refused_in_their_order(rt: HostRuntime) -> Result<(), Fail> {
 #[test]
 fn errors_have_their_numbers_and_names(rt: HostRuntime) {
     let errors = [
-        (DbError::Absent, 1, "Absent"),
-        (DbError::BlockSize, 2, "BlockSize"),
-        (DbError::BadHashEntry(1024, 7), 11, "BadHashEntry"),
-        (DbError::NeedRecovery, 13, "NeedRecovery"),
-        (DbError::CannotReplace, 16, "CannotReplace"),
-        (DbError::DirOverflow, 17, "DirOverflow"),
-        (DbError::Exists(Which::Odd), 20, "Exists"),
-        (DbError::NotOpen, 26, "NotOpen"),
-        (DbError::VaultFault, 27, "VaultFault"),
-        (DbError::ClockStood(2, 1), 30, "ClockStood"),
+        (DbError::Absent, "Absent"),
+        (DbError::BlockSize, "BlockSize"),
+        (DbError::ShortFile, "ShortFile"),
+        (DbError::BadMagic, "BadMagic"),
+        (DbError::ByteSwapped, "ByteSwapped"),
+        (DbError::WrongOffset, "WrongOffset"),
+        (DbError::BadHeader, "BadHeader"),
+        (DbError::BadDirEntry(5), "BadDirEntry"),
+        (DbError::BadBucket(1024), "BadBucket"),
+        (DbError::BadHashTable(1024), "BadHashTable"),
+        (DbError::BadHashEntry(1024, 7), "BadHashEntry"),
+        (DbError::BadAvail(40), "BadAvail"),
+        (DbError::NeedRecovery, "NeedRecovery"),
+        (DbError::ReaderCant, "ReaderCant"),
+        (DbError::ItemNotFound, "ItemNotFound"),
+        (DbError::CannotReplace, "CannotReplace"),
+        (DbError::DirOverflow, "DirOverflow"),
+        (DbError::TooLarge, "TooLarge"),
+        (DbError::FileFull, "FileFull"),
+        (DbError::Exists(Which::Odd), "Exists"),
+        (DbError::InUse, "InUse"),
+        (DbError::NotNumsync, "NotNumsync"),
+        (DbError::AlreadyAtomic, "AlreadyAtomic"),
+        (DbError::SameName, "SameName"),
+        (DbError::InEpoch, "InEpoch"),
+        (DbError::NotOpen, "NotOpen"),
+        (DbError::VaultFault, "VaultFault"),
+        (DbError::ClockFault, "ClockFault"),
+        (DbError::OutOfMemory, "OutOfMemory"),
+        (DbError::ClockStood(2, 1), "ClockStood"),
     ];
-    for (error, number, name) in errors {
-        assert_eq!(rt; error.number(), number);
-        assert_eq!(rt; error.name(), name);
+    for (place, (error, name)) in errors.iter().enumerate() {
+        assert_eq!(rt; usize::from(error.number()), place + 1);
+        assert_eq!(rt; error.name(), *name);
     }
 }
 
