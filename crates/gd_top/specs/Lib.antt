@@ -1,1 +1,3 @@
+pub mod Dump
 pub mod Host
+pub mod Words

@@ -3,6 +3,8 @@
 
 mod sink;
 mod vault;
+mod words;
 
 pub use sink::HostSink;
 pub use vault::HostVault;
+pub use words::host_words;

@@ -1,6 +1,87 @@
-//! The programs as one call, and the host's objects that it runs over.
+//! The programs as one call, and the host's objects over which they make it.
 #![tactic(auto)]
 
-mod host;
+ghost use Rattle.std.specs.Prelude.{◌≡◌, ◌≤◌, ◌↔◌, None, map, string_bytes};
+ghost use Rattle.gd_base.specs.Causes.{Rose};
+ghost use Rattle.gd_base.specs.Views.{OnlyAsks};
+ghost use Rattle.gd_top.specs.declared.ending.Ending.{Ending};
+ghost use Rattle.gd_top.specs.Dump.{Ends, Says};
+ghost use Rattle.gd_top.specs.Words.{reading};
 
-pub use host::{HostSink, HostVault};
+mod dump;
+mod ending;
+mod host;
+mod words;
+
+use dump::dump;
+pub use ending::{Ending, report};
+use gd_base::{Sink, Vault};
+pub use host::{HostSink, HostVault, host_words};
+use std::alloc::Global;
+pub use words::Refusal;
+use words::name_of;
+
+/// Which program runs.
+#[derive(Clone, Copy, Debug, PartialEq, Eq)]
+pub enum Tool {
+    /// `gdbm_dump DB` prints the ASCII dump of a database file.
+    Dump,
+}
+
+/// What a run leaves beside what it wrote.
+#[derive(Clone, Copy, Debug, PartialEq, Eq)]
+pub struct Outcome {
+    /// The exit status: 0 where the dump was printed, 1 for an absent or unreadable file or a failed device, 3 for
+    /// refused words, 4 for want of memory.
+    pub status: u8,
+}
+
+// Dumps the file that the words name.
+fn dump_words<O: Sink, V: Vault>(
+    alloc: Global,
+    words: &[String],
+    out: &mut O,
+    vault: &mut V,
+) -> Ending
+    ensures ends { Ends result (reading (map string_bytes words.now)) (V.view_of vault.old) (Rose (V.view_of vault.old).faults (V.view_of vault.new).faults) (Rose (O.fault_count out.old) (O.fault_count out.new)) (O.written out.old) (O.written out.new) }
+    ensures asks { OnlyAsks (V.view_of vault.old) (V.view_of vault.new) }
+    ensures later { O.fault_count out.old ≤ O.fault_count out.new }
+    ensures kept { O.kept out.old out.new }
+{
+    match name_of(alloc, words) {
+        Ok(name) => dump(alloc, &name, out, vault),
+        Err(Refusal::Usage) => Ending::Misused,
+        Err(Refusal::Memory) => Ending::Starved,
+    }
+}
+
+/// Runs a tool with the words after its name.
+pub fn run<O: Sink, E: Sink, V: Vault>(
+    alloc: Global,
+    tool: Tool,
+    words: &[String],
+    out: &mut O,
+    err: &mut E,
+    vault: &mut V,
+) -> Outcome
+    // The words are refused.
+    ensures usage { (result.status ≡ 3) ↔ (reading (map string_bytes words.now) ≡ None) }
+
+    // There is one way in which the run ended: why it came, and what was printed and said.
+    ensures ends { (e : Ending)
+        × Ends e (reading (map string_bytes words.now)) (V.view_of vault.old) (Rose (V.view_of vault.old).faults (V.view_of vault.new).faults) (Rose (O.fault_count out.old) (O.fault_count out.new)) (O.written out.old) (O.written out.new)
+        × Says e result.status (E.fault_count err.old) (E.fault_count err.new) (E.written err.old) (E.written err.new) }
+
+    // The vault is only asked, and no count falls.
+    ensures asks { OnlyAsks (V.view_of vault.old) (V.view_of vault.new) }
+    ensures later_out { O.fault_count out.old ≤ O.fault_count out.new }
+    ensures later_err { E.fault_count err.old ≤ E.fault_count err.new }
+    ensures kept_out { O.kept out.old out.new }
+    ensures kept_err { E.kept err.old err.new }
+{
+    let ending = match tool {
+        Tool::Dump => dump_words(alloc, words, out, vault),
+    };
+    let status = report(err, ending);
+    Outcome { status }
+}

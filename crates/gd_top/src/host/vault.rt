@@ -5,7 +5,7 @@ ghost use Rattle.gd_top.specs.Host.{untold};
 
 use gd_base::{Failed, FileId, Name, Vault};
 use std::alloc::Global;
-use std::fs::{File, OpenOptions};
+use std::fs::{self, File, OpenOptions};
 use std::io;
 use std::os::unix::fs::{FileExt, MetadataExt};
 
@@ -31,9 +31,11 @@ fn place_of(held: &[Held], device: u64, inode: u64) -> Option<usize> {
         .position(|h| h.device == device && h.inode == inode)
 }
 
+// Opens a regular file. What is none is not opened, since to open a pipe would wait for its writer.
 fn open(rt: &HostRuntime, name: &str) -> io::Result<Option<File>> {
-    match OpenOptions::new().read(true).open(rt, name) {
-        Ok(file) => Ok(Some(file)),
+    match fs::metadata(rt, name) {
+        Ok(data) if data.is_file() => Ok(Some(OpenOptions::new().read(true).open(rt, name)?)),
+        Ok(_) => Err(io::ErrorKind::InvalidInput.into()),
         Err(error) if error.kind() == io::ErrorKind::NotFound => Ok(None),
         Err(error) => Err(error),
     }
@@ -75,9 +77,6 @@ impl<'a> HostVault<'a> {
             return Ok(None);
         };
         let data = file.metadata()?;
-        if !data.is_file() {
-            return Err(io::ErrorKind::InvalidInput.into());
-        }
         if let Some(place) = place_of(&self.held, data.dev(), data.ino()) {
             return Ok(Some(FileId(place as u64)));
         }

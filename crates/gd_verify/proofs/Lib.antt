@@ -1,0 +1,9 @@
+pub mod Fronts
+pub mod Headers
+pub mod Left
+pub mod Passing
+pub mod Places
+pub mod Runs
+pub mod Seen
+pub mod Steps
+pub mod Walk

@@ -1,0 +1,6 @@
+use Rattle.std.proofs.Common.{[]}
+use Rattle.gd_verify.proofs.Passing.{starts_whole}
+use Rattle.gd_verify.proofs.records.Records.start.Goals as goal
+
+pub returns : goal.returns
+returns c = starts_whole c.args.file.now c.args.header.now _ c.requires.header

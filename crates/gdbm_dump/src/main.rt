@@ -1,0 +1,26 @@
+//! `gdbm_dump DB` prints the ASCII dump of a database file.
+#![tactic(auto)]
+
+use gd_top::{Ending, HostSink, HostVault, Tool, host_words, report, run};
+use std::process::ExitCode;
+
+fn main(rt: HostRuntime) -> ExitCode {
+    let mut out = HostSink::new(rt.stdout());
+    let mut err = HostSink::new(rt.stderr());
+    let status = match host_words(&rt) {
+        Ok(words) => {
+            let mut vault = HostVault::new(&rt, rt.alloc());
+            run(
+                rt.alloc(),
+                Tool::Dump,
+                &words,
+                &mut out,
+                &mut err,
+                &mut vault,
+            )
+            .status
+        }
+        Err(_) => report(&mut err, Ending::Starved),
+    };
+    ExitCode::from(status)
+}
