@@ -134,7 +134,7 @@ fn a_small_vault_reads_what_was_added(rt: HostRuntime) -> Result<(), Fail> {
     assert!(rt; vault.len(found) == Ok(5));
     let mut buf = [0u8; 4];
     assert!(rt; vault.read_at(found, 2, &mut buf) == Ok(3));
-    assert_eq!(rt; &buf[..3], b"pha".as_slice());
+    assert_eq!(rt; buf, *b"pha\0");
     assert!(rt; vault.read_at(found, u64::MAX, &mut buf) == Ok(0));
     assert!(rt; vault.faults() == 0 && vault.moment() == 0);
     Ok(())

@@ -85,3 +85,6 @@ pub fn run<O: Sink, E: Sink, V: Vault>(
     let status = report(err, ending);
     Outcome { status }
 }
+
+#[cfg(test)]
+mod tests;
