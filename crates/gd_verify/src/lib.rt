@@ -5,6 +5,8 @@ mod directory;
 mod keys;
 mod records;
 mod slots;
+#[cfg(test)]
+mod tests;
 mod whole;
 
 pub use crate::records::Records;
