@@ -11,11 +11,13 @@ all: $(PROGRAMS:%=bin/%)
 
 sources = $(shell find crates -path '*/out' -prune -o -type f \( -name '*.rt' -o -name '*.antt' \) -print) crates.txt
 
-# A run with no words proves and builds the program, and then has it refuse its words.
+# The program is proved and linked anew, and only then copied: a run with no words has it refuse its words.
 bin/%: $(sources)
 	@mkdir -p bin
-	-@cd crates/$* && rt run >/dev/null 2>&1
-	@cp crates/$*/out/$* bin/$* || { cd crates/$* && rt check; exit 1; }
+	@rm -f crates/$*/out/$*
+	@cd crates/$* && rt check >check.log 2>&1 || { grep -E 'error|no proof' check.log; exit 1; }
+	@-cd crates/$* && rm -f check.log && rt run >/dev/null 2>&1
+	@cp crates/$*/out/$* bin/$*
 
 dump: bin/gdbm_dump
 	@bin/gdbm_dump $(DB)

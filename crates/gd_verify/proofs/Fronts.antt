@@ -1,7 +1,7 @@
 -- The front of a file, in which its header stands.
-use Rattle.std.proofs.Common.{◌≡◌, ℕ, ◌+◌, ◌-◌, ◌<◌, ◌≤◌, List, length, take, drop, None, refl, sym, arith}
+use Rattle.std.proofs.Common.{◌≡◌, ℕ, ◌<◌, List, length, take, None, refl, sym, arith}
 use Rattle.std.proofs.lemmas.List.{take_all, length-take-le}
-use Rattle.gd_format.specs.HeaderFault.{header_fault_of, header_of}
+use Rattle.gd_format.specs.HeaderFault.{header_fault_of}
 use Rattle.gd_verify.proofs.Headers.{header_in}
 use Rattle.gd_format.specs.File.{front_of}
 

@@ -1,11 +1,9 @@
 -- What a walk over a readable file knows where it stands.
-use Rattle.std.proofs.Common.{◌≡◌, ℕ, ◌+◌, ◌-◌, ◌*◌, ◌<◌, ◌≤◌, true, List, [], ◌∷◌, ◌++◌, length, None, refl, sym, ap, ◌∙◌, arith}
-use Rattle.std.proofs.lemmas.List.{append-nil}
+use Rattle.std.proofs.Common.{◌≡◌, ℕ, ◌+◌, ◌-◌, ◌*◌, ◌<◌, ◌≤◌, true, List, ◌∷◌, length, None, refl, ◌∙◌, arith}
 use Rattle.gd_format.specs.declared.Header.{Header}
 use Rattle.gd_format.specs.Bucket.{raw_slot_at}
 use Rattle.gd_format.specs.HeaderFault.{header_of}
-use Rattle.gd_format.specs.File.{file_fault, dir_fault, front_of, entries_of, entry_at, block_of, is_first, is_full_at, is_record_in, record_of, key_of, value_of}
-use Rattle.gd_format.specs.Field.{bytes_at}
+use Rattle.gd_format.specs.File.{file_fault, dir_fault, front_of, entries_of, block_of, is_first, is_full_at, is_record_in, key_of, value_of}
 use Rattle.gd_format.proofs.Firsts.{or_else-none}
 use Rattle.gd_format.proofs.Pieces.{length-bytes_at}
 use Rattle.gd_verify.specs.Checks.{IsHeaderIn}

@@ -3,6 +3,7 @@ pub mod Headers
 pub mod Left
 pub mod Passing
 pub mod Places
+pub mod Reach
 pub mod Runs
 pub mod Seen
 pub mod Steps

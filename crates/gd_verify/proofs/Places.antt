@@ -1,5 +1,5 @@
 -- Bytes at places, and slots by their hashes.
-use Rattle.std.proofs.Common.{eqb, leb, ◌||◌, ◌≤◌, length, ◌≡◌, ℕ, ◌+◌, ◌<◌, ◌≢◌, Bool, true, false, not, ◌&&◌, List, [], take, drop, refl, sym, ap, ◌∙◌, arith, inl, inr}
+use Rattle.std.proofs.Common.{eqb, leb, ◌||◌, ◌≤◌, length, ◌≡◌, ℕ, ◌+◌, ◌<◌, ◌≢◌, Bool, true, false, not, List, [], refl, sym, ap, ◌∙◌, arith}
 use Rattle.std.specs.Str.{bytes_eq}
 use Rattle.std.proofs.lemmas.Slice.Eq.{bytes_eq-Decides}
 use Rattle.gd_format.specs.Field.{bytes_at}

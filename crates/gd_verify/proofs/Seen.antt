@@ -1,6 +1,6 @@
 -- The addresses of the runs that were judged, in a set.
-use Rattle.std.proofs.Common.{◌≡◌, ℕ, zero, suc, ◌+◌, ◌<◌, ◌≢◌, Bool, true, false, not, ◌&&◌, cond, List, None, refl, sym, ap, ◌∙◌, arith, inl, inr, add-one}
-use Rattle.std.specs.Prelude.{ℤ, pos, nat_eq}
+use Rattle.std.proofs.Common.{◌≡◌, ℕ, zero, suc, ◌+◌, ◌<◌, Bool, true, false, not, ◌&&◌, cond, List, None, refl, sym, ap, ◌∙◌, arith}
+use Rattle.std.specs.Prelude.{pos, nat_eq}
 use Rattle.std.specs.Ordering.{int_eq}
 use Rattle.std.specs.HashSet.{contains}
 use Rattle.std.proofs.lemmas.Bool.Decides.{Decides-eqb, Decides-int_eq}

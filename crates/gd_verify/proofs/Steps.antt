@@ -1,5 +1,5 @@
 -- Steps of the walk over the directory.
-use Rattle.std.proofs.Common.{◌≡◌, ℕ, zero, suc, ◌+◌, ◌-◌, ◌<◌, ◌≤◌, List, Option, Some, None, refl, sym, ap, ◌∙◌, inl, inr, arith}
+use Rattle.std.proofs.Common.{◌≡◌, ℕ, zero, suc, ◌+◌, ◌-◌, ◌<◌, List, Option, Some, None, refl, sym, ap, ◌∙◌, arith}
 use Rattle.gd_format.specs.declared.Header.{Header}
 use Rattle.gd_base.specs.declared.errors.DbError.{DbError}
 use Rattle.gd_format.specs.First.{or_else}

@@ -1,5 +1,5 @@
 -- What the check of a file knows on its way.
-use Rattle.std.specs.Prelude.{◌≡◌, ℕ, ◌+◌, ◌*◌, ◌^◌, ◌<◌, ◌≤◌, pos, Bool, true, not, List, length, nat_eq}
+use Rattle.std.specs.Prelude.{◌≡◌, ℕ, ◌+◌, ◌-◌, ◌*◌, ◌%◌, ◌^◌, ◌<◌, ◌≤◌, pos, Bool, true, false, not, List, length, nat_eq}
 use Rattle.std.specs.Ordering.{int_eq}
 use Rattle.std.specs.HashSet.{HashSet, contains}
 use Rattle.std.specs.declared.hash.FoldHasher.{FoldHasher}
@@ -45,3 +45,9 @@ is_entry_other file h a j = not (int_eq (entry_at file h j) (pos a))
 -- the set has the addresses of the entries below n
 abbrev pub SeesPlaces : Numbers → List ℕ → Header → ℕ → Type 0
 SeesPlaces seen file h n = (a : ℕ) → contains nat_eq seen a ≡ not (all_below n (is_entry_other file h a))
+
+-- b full slots stand directly before the slot s, of which slot 0 has the last slot before it
+pub record IsFullBefore (block : List ℕ) (elems s b : ℕ) : Type 0 where
+  pub full : (k : ℕ) → k < b → is_full_at block ((s + elems - (k + 1)) % elems) ≡ true
+  pub ends : b < elems → is_full_at block ((s + elems - (b + 1)) % elems) ≡ false
+  pub few : b ≤ elems

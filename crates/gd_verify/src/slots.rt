@@ -1,9 +1,10 @@
 //! The slots of one bucket by themselves: their number, and whether each is reached from its home.
 
 ghost use Rattle.std.specs.Prelude.{◌≡◌, ◌+◌, ◌*◌, ◌%◌, ◌<◌, ◌≤◌, ◌^◌, length};
-ghost use Rattle.gd_format.specs.First.{count_below, first_below, all_below};
+ghost use Rattle.gd_format.specs.First.{count_below, first_below};
 ghost use Rattle.gd_format.specs.HeaderFault.{natural};
-ghost use Rattle.gd_format.specs.File.{is_full_at, is_full_after, is_count_right, is_reached, reach_fault};
+ghost use Rattle.gd_format.specs.File.{is_full_at, is_count_right, is_reached, reach_fault};
+ghost use Rattle.gd_verify.specs.Checks.{IsFullBefore};
 
 use gd_base::DbError;
 use gd_format::RawSlot;
@@ -50,33 +51,34 @@ pub fn has_right_count(block: &[u8], elems: u32) -> bool
     full >= 0 && full.cast_unsigned() == count_full(block, elems)
 }
 
-#[tactic(auto, unfolding(gd_format::specs::File::is_full_after))]
-fn is_full_from(block: &[u8], elems: u64, home: u64, d: u64) -> bool
-    requires some { 0 < elems }
-    requires size { 112 + 24 * elems ≤ length block.now }
-    requires home_in { home < elems }
-    requires range { elems < 2 ^ 32 }
-    requires steps { d < elems }
-    ensures { result ≡ is_full_after block.now elems home d }
+// How many full slots stand directly before slot 0, from the last slot on down.
+#[tactic(auto, using(crate::proofs::Reach::run_at_end))]
+fn full_at_end(block: &[u8], elems: u32) -> u32
+    requires { 112 + 24 * elems ≤ length block.now }
+    ensures { IsFullBefore block.now elems 0 result }
 {
-    is_full(block, ((home + d) % elems) as u32)
+    let mut n = 0;
+    'slots: while n < elems {
+        if !is_full(block, elems - 1 - n) {
+            return n;
+        }
+        n += 1;
+    }
+    n
 }
 
-// Are so many slots from a home on full?
-fn all_full_from(block: &[u8], elems: u64, home: u64, steps: u64) -> bool
-    requires some { 0 < elems }
+// How many full slots stand directly before the slot after s, by their number before s.
+#[tactic(auto, using(crate::proofs::Reach::run_ends_here, crate::proofs::Reach::run_goes_on))]
+fn full_behind(block: &[u8], elems: u32, s: u32, before: u32) -> u32
     requires size { 112 + 24 * elems ≤ length block.now }
-    requires home_in { home < elems }
-    requires range { elems < 2 ^ 32 }
-    requires steps { steps ≤ elems }
-    ensures { result ≡ all_below steps (is_full_after block.now elems home) }
+    requires place { s < elems }
+    requires before { IsFullBefore block.now elems s before }
+    ensures { IsFullBefore block.now elems (s + 1) result }
 {
-    for d in 0..steps {
-        if !is_full_from(block, elems, home, d) {
-            return false;
-        }
+    if !is_full(block, s) {
+        return 0;
     }
-    true
+    if before < elems { before + 1 } else { before }
 }
 
 fn home_of(raw: &RawSlot, elems: u64) -> u64
@@ -87,16 +89,17 @@ fn home_of(raw: &RawSlot, elems: u64) -> u64
     u64::from(natural_of(raw.hash)) % elems
 }
 
-// Are all slots from its home up to the slot full?
-#[tactic(auto, unfolding(gd_format::specs::File::is_reached))]
-fn is_reachable(block: &[u8], elems: u32, s: u32) -> bool
+// Are all slots from its home up to the slot full? As many as `before` stand directly before it.
+#[tactic(auto, unfolding(gd_format::specs::File::is_reached), using(crate::proofs::Reach::reach_by_run))]
+fn is_reachable(block: &[u8], elems: u32, s: u32, before: u32) -> bool
     requires size { 112 + 24 * elems ≤ length block.now }
     requires place { s < elems }
+    requires before { IsFullBefore block.now elems s before }
     ensures { result ≡ is_reached block.now elems s }
 {
     let size = u64::from(elems);
     let home = home_of(&Native::raw_slot(block, s), size);
-    all_full_from(block, size, home, (u64::from(s) + size - home) % size)
+    (u64::from(s) + size - home) % size <= u64::from(before)
 }
 
 /// The refusal of the first full slot that is not reached from its home, in the bucket at an address.
@@ -105,10 +108,12 @@ pub fn unreached(block: &[u8], elems: u32, at: u64) -> Option<DbError>
     requires { 112 + 24 * elems ≤ length block.now }
     ensures { result ≡ first_below elems (reach_fault block.now elems at) }
 {
+    let mut before = full_at_end(block, elems);
     for s in 0..elems {
-        if is_full(block, s) && !is_reachable(block, elems, s) {
+        if is_full(block, s) && !is_reachable(block, elems, s, before) {
             return Some(DbError::BadHashTable(at));
         }
+        before = full_behind(block, elems, s, before);
     }
     None
 }

@@ -6,6 +6,55 @@ use std::test::Fail;
 
 const ROOM: usize = 2304;
 
+// Slots of the keys db, dd, A----z, a----j and k, whose hashes GNU dbm gives, and of a record without a byte.
+const LAST: [u8; 24] = [
+    15, 137, 4, 41, 100, 98, 0, 0, 0, 6, 0, 0, 0, 0, 0, 0, 2, 0, 0, 0, 0, 0, 0, 0,
+];
+
+const FIRST: [u8; 24] = [
+    207, 35, 152, 26, 100, 100, 0, 0, 2, 6, 0, 0, 0, 0, 0, 0, 2, 0, 0, 0, 1, 0, 0, 0,
+];
+
+const ONE: [u8; 24] = [
+    30, 246, 55, 111, 65, 45, 45, 45, 5, 6, 0, 0, 0, 0, 0, 0, 6, 0, 0, 0, 0, 0, 0, 0,
+];
+
+const OTHER: [u8; 24] = [
+    30, 246, 55, 111, 97, 45, 45, 45, 11, 6, 0, 0, 0, 0, 0, 0, 6, 0, 0, 0, 1, 0, 0, 0,
+];
+
+const AGAIN: [u8; 24] = [
+    30, 246, 55, 111, 65, 45, 45, 45, 5, 6, 0, 0, 0, 0, 0, 0, 6, 0, 0, 0, 1, 0, 0, 0,
+];
+
+const NOWHERE: [u8; 24] = [
+    57, 48, 0, 0, 255, 255, 255, 255, 255, 255, 255, 255, 255, 255, 255, 127, 0, 0, 0, 0, 0, 0, 0,
+    0,
+];
+
+const K: [u8; 24] = [
+    23, 131, 9, 27, 107, 0, 0, 0, 0, 6, 0, 0, 0, 0, 0, 0, 1, 0, 0, 0, 1, 0, 0, 0,
+];
+
+const K_BEHIND: [u8; 24] = [
+    23, 131, 9, 27, 107, 0, 0, 0, 0, 8, 0, 0, 0, 0, 0, 0, 1, 0, 0, 0, 1, 0, 0, 0,
+];
+
+// The records of the first four, and a count of two.
+const TEXT: (usize, &[u8]) = (1536, b"dbdd!A----za----j!");
+
+const TWO: (usize, &[u8]) = (1132, &[2]);
+
+// What a file is answered, after changes of some of its bytes.
+#[derive(Clone, Copy)]
+struct Row<'a> {
+    name: &'a str,
+    edits: &'a [(usize, &'a [u8])],
+    len: usize,
+    refusal: Option<DbError>,
+    records: &'a [(&'a [u8], &'a [u8])],
+}
+
 fn put(rt: &impl Abort, file: &mut [u8], at: usize, bytes: &[u8]) {
     assert!(rt; at <= file.len() && bytes.len() <= file.len() - at);
     file[at..at + bytes.len()].copy_from_slice(bytes);
@@ -13,9 +62,12 @@ fn put(rt: &impl Abort, file: &mut [u8], at: usize, bytes: &[u8]) {
 
 // An empty bucket of a block of 512 bytes, with a free extent.
 fn put_bucket(rt: &impl Abort, file: &mut [u8], at: usize) {
-    put(rt, file, at, &[1]);
-    put(rt, file, at.wrapping_add(8), &[0, 2, 0, 0]);
-    put(rt, file, at.wrapping_add(16), &[0, 6]);
+    put(
+        rt,
+        file,
+        at,
+        &[1, 0, 0, 0, 0, 0, 0, 0, 0, 2, 0, 0, 0, 0, 0, 0, 0, 6],
+    );
     for s in 0..16usize {
         put(rt, file, at.wrapping_add(112 + 24 * s), &[0xff; 4]);
     }
@@ -40,363 +92,273 @@ fn new_file(rt: &impl Abort) -> [u8; ROOM] {
     file
 }
 
-fn size_of(key: &[u8]) -> u8 {
-    u8::try_from(key.len()).unwrap_or(255)
-}
-
-// The fields of a slot with a key of the bytes at a place.
-fn put_slot(
-    rt: &impl Abort,
-    file: &mut [u8],
-    s: usize,
-    hash: [u8; 4],
-    key: &[u8],
-    at: [u8; 8],
-    value: u8,
-) {
-    let place = s.wrapping_mul(24).wrapping_add(1136);
-    put(rt, file, place, &hash);
-    put(rt, file, place.wrapping_add(4), key.get(..4).unwrap_or(key));
-    put(rt, file, place.wrapping_add(8), &at);
-    put(
-        rt,
-        file,
-        place.wrapping_add(16),
-        &[size_of(key), 0, 0, 0, value, 0, 0, 0],
-    );
-}
-
 // The file of 1,538 bytes with the record `k`, `v`.
 fn one_record(rt: &impl Abort) -> [u8; ROOM] {
     let mut file = new_file(rt);
-    put(rt, &mut file, 1032, &[0xfe, 1]);
-    put(rt, &mut file, 1040, &[2, 6]);
+    put(rt, &mut file, 1032, &[0xfe, 1, 0, 0, 0, 0, 0, 0, 2, 6]);
     put(rt, &mut file, 1132, &[1]);
-    put_slot(
-        rt,
-        &mut file,
-        7,
-        [0x17, 0x83, 0x09, 0x1b],
-        b"k",
-        [0, 6, 0, 0, 0, 0, 0, 0],
-        1,
-    );
+    put(rt, &mut file, 1304, &K);
     put(rt, &mut file, 1536, b"kv");
     file
 }
 
-// A new file with a second bucket at 1,536, of 2,048 bytes.
+// A new file with a second bucket at 1,536, for the upper half of the directory, and `kv` at 2,048.
 fn two_buckets(rt: &impl Abort) -> [u8; ROOM] {
     let mut file = new_file(rt);
     put_bucket(rt, &mut file, 1536);
     put(rt, &mut file, 1128, &[1]);
     put(rt, &mut file, 1640, &[1]);
     put_entries(rt, &mut file, 32, 64, &[0, 6]);
+    put(rt, &mut file, 2048, b"kv");
     file
 }
 
-fn refusal_of(alloc: Global, file: &[u8]) -> Result<Option<DbError>, Fail> {
-    match file_refusal(alloc, file) {
-        Ok(refusal) => Ok(refusal),
-        Err(_) => Err(Fail::from("out of memory")),
-    }
-}
-
-fn refuses(
-    rt: &impl Abort,
-    alloc: Global,
-    file: &[u8],
-    len: usize,
-    refusal: Option<DbError>,
-    name: &str,
-) -> Result<(), Fail> {
-    assert!(rt; len <= file.len());
-    assert_eq!(rt; refusal_of(alloc, &file[..len])?, refusal, "{name}");
-    Ok(())
-}
-
-fn has_records(
-    rt: &impl Abort,
-    alloc: Global,
-    file: &[u8],
-    len: usize,
-    wanted: &[(&[u8], &[u8])],
-) -> Result<(), Fail> {
-    assert!(rt; len <= file.len());
-    let file = &file[..len];
+fn has_records(rt: &impl Abort, alloc: Global, file: &[u8], row: &Row) {
     match check(alloc, file) {
         Ok(Ok(header)) => {
             let mut records = Records::start(file, &header);
-            for pair in wanted {
-                assert_eq!(rt; records.next(), Some(*pair));
+            for pair in row.records {
+                assert_eq!(rt; records.next(), Some(*pair), "{}", row.name);
             }
-            assert!(rt; records.next().is_none(), "one record too many");
-            assert!(rt; records.next().is_none(), "a record after the end");
+            assert!(rt;
+                records.next().is_none() && records.next().is_none(),
+                "{}",
+                row.name
+            );
         }
-        Ok(Err(refusal)) => assert!(rt; false, "{refusal:?}"),
+        Ok(Err(refusal)) => assert_eq!(rt; Some(refusal), row.refusal, "{}", row.name),
         Err(_) => assert!(rt; false, "out of memory"),
     }
-    Ok(())
 }
 
-#[test]
-fn a_new_file_has_no_records(rt: HostRuntime) -> Result<(), Fail> {
-    let file = new_file(&rt);
-    refuses(&rt, rt.alloc(), &file, 1536, None, "new")?;
-    has_records(&rt, rt.alloc(), &file, 1536, &[])?;
-    refuses(
-        &rt,
-        rt.alloc(),
-        &file,
-        39,
-        Some(DbError::ShortFile),
-        "39 bytes",
-    )?;
-    refuses(
-        &rt,
-        rt.alloc(),
-        &file,
-        1535,
-        Some(DbError::BadDirEntry(0)),
-        "1,535 bytes",
-    )?;
-    refuses(
-        &rt,
-        rt.alloc(),
-        &file,
-        1023,
-        Some(DbError::BadHeader),
-        "1,023 bytes",
-    )?;
-    let two = two_buckets(&rt);
-    refuses(&rt, rt.alloc(), &two, 2048, None, "two buckets")?;
-    has_records(&rt, rt.alloc(), &two, 2048, &[])?;
-    Ok(())
-}
-
-#[test]
-fn one_changed_place_of_a_file_is_refused(rt: HostRuntime) -> Result<(), Fail> {
-    let entry = Some(DbError::BadHashEntry(1024, 7));
-    let rows: [(usize, &[u8], Option<DbError>, &str); 18] = [
-        (
-            512,
-            &[3, 4],
-            Some(DbError::BadDirEntry(0)),
-            "a bucket beyond the end",
-        ),
-        (
-            519,
-            &[0x80],
-            Some(DbError::BadDirEntry(0)),
-            "an address below 0",
-        ),
-        (
-            832,
-            &[1],
-            Some(DbError::BadDirEntry(40)),
-            "a run that is not whole",
-        ),
-        (
-            1016,
-            &[1],
-            Some(DbError::BadDirEntry(63)),
-            "a run without its last entry",
-        ),
-        (
-            1128,
-            &[1],
-            Some(DbError::BadDirEntry(32)),
-            "an address that comes again",
-        ),
-        (
-            1128,
-            &[7],
-            Some(DbError::BadBucket(1024)),
-            "more bits than the directory",
-        ),
-        (
-            1024,
-            &[7],
-            Some(DbError::BadBucket(1024)),
-            "seven free extents",
-        ),
-        (
-            1132,
-            &[2],
-            Some(DbError::BadHashTable(1024)),
-            "a count that is wrong",
-        ),
-        (1304, &[0x18], entry, "a hash that is wrong"),
-        (1307, &[0x80], entry, "a hash below 0"),
-        (1308, &[0x6c], entry, "a first byte that is wrong"),
-        (1309, &[0xff], None, "a byte behind a short key"),
-        (1319, &[0x80], entry, "a record below 0"),
-        (1324, &[2], entry, "a record beyond the end"),
-        (1323, &[0x80], entry, "a key of a size below 0"),
-        (1327, &[0x40], entry, "a value above the limit"),
-        (1536, &[0x6c], entry, "a key that is wrong"),
-        (1140, &[0xff; 20], None, "an empty slot of any content"),
-    ];
-    for (at, bytes, refusal, name) in rows {
-        let mut file = one_record(&rt);
-        put(&rt, &mut file, at, bytes);
-        refuses(&rt, rt.alloc(), &file, 1538, refusal, name)?;
+fn answers(rt: &impl Abort, alloc: Global, base: &[u8; ROOM], row: &Row) {
+    let mut file = *base;
+    for (at, bytes) in row.edits {
+        put(rt, &mut file, *at, bytes);
     }
+    assert!(rt; row.len <= ROOM);
+    let file = &file[..row.len];
+    assert!(rt;
+        file_refusal(alloc, file) == Ok(row.refusal),
+        "{}",
+        row.name
+    );
+    has_records(rt, alloc, file, row);
+}
+
+fn all_answer(rt: &impl Abort, alloc: Global, base: &[u8; ROOM], rows: &[Row]) {
+    for row in rows {
+        answers(rt, alloc, base, row);
+    }
+}
+
+// A row of a file that is refused.
+fn refused<'a>(
+    name: &'a str,
+    edits: &'a [(usize, &'a [u8])],
+    len: usize,
+    refusal: DbError,
+) -> Row<'a> {
+    Row {
+        name,
+        edits,
+        len,
+        refusal: Some(refusal),
+        records: &[],
+    }
+}
+
+// A row of a readable file.
+fn has<'a>(
+    name: &'a str,
+    edits: &'a [(usize, &'a [u8])],
+    len: usize,
+    records: &'a [(&'a [u8], &'a [u8])],
+) -> Row<'a> {
+    Row {
+        name,
+        edits,
+        len,
+        refusal: None,
+        records,
+    }
+}
+
+#[test]
+fn a_new_file_and_records_put_into_it(rt: HostRuntime) -> Result<(), Fail> {
+    let rows = [
+        has("new", &[], 1536, &[]),
+        refused("39 bytes", &[], 39, DbError::ShortFile),
+        refused("a directory beyond the end", &[], 1023, DbError::BadHeader),
+        refused(
+            "a bucket beyond the end",
+            &[],
+            1535,
+            DbError::BadDirEntry(0),
+        ),
+        has(
+            "from the last slot to the first",
+            &[TEXT, TWO, (1496, &LAST), (1136, &FIRST)],
+            1541,
+            &[(b"dd", b"!"), (b"db", b"")],
+        ),
+        refused(
+            "not reached from the last slot",
+            &[TEXT, (1132, &[1]), (1136, &FIRST)],
+            1541,
+            DbError::BadHashTable(1024),
+        ),
+        has(
+            "keys of one hash",
+            &[TEXT, TWO, (1472, &ONE), (1496, &OTHER)],
+            1554,
+            &[(b"A----z", b""), (b"a----j", b"!")],
+        ),
+        refused(
+            "equal keys",
+            &[TEXT, TWO, (1472, &ONE), (1496, &AGAIN)],
+            1554,
+            DbError::BadHashEntry(1024, 15),
+        ),
+    ];
+    all_answer(&rt, rt.alloc(), &new_file(&rt), &rows);
     Ok(())
 }
 
 #[test]
-fn records_come_in_file_order(rt: HostRuntime) -> Result<(), Fail> {
-    let file = one_record(&rt);
-    refuses(&rt, rt.alloc(), &file, 1538, None, "one record")?;
-    has_records(&rt, rt.alloc(), &file, 1538, &[(b"k", b"v")])?;
-
-    // The one value is empty, and a record without a byte stands nowhere.
-    let mut empty = one_record(&rt);
-    put(&rt, &mut empty, 1132, &[2]);
-    put(&rt, &mut empty, 1324, &[0]);
-    put_slot(
-        &rt,
-        &mut empty,
-        9,
-        [0x39, 0x30, 0, 0],
-        b"",
-        [0xff, 0, 0, 0, 0, 0, 0, 0x7f],
-        0,
-    );
-    has_records(&rt, rt.alloc(), &empty, 1537, &[(b"k", b""), (b"", b"")])?;
-
-    // Probing goes on from the last slot to the first.
-    let mut round = new_file(&rt);
-    put(&rt, &mut round, 1132, &[2]);
-    put_slot(
-        &rt,
-        &mut round,
-        15,
-        [0x0f, 0x89, 0x04, 0x29],
-        b"db",
-        [0, 6, 0, 0, 0, 0, 0, 0],
-        0,
-    );
-    put_slot(
-        &rt,
-        &mut round,
-        0,
-        [0xcf, 0x23, 0x98, 0x1a],
-        b"dd",
-        [2, 6, 0, 0, 0, 0, 0, 0],
-        1,
-    );
-    put(&rt, &mut round, 1536, b"dbdd!");
-    has_records(
-        &rt,
-        rt.alloc(),
-        &round,
-        1541,
-        &[(b"dd", b"!"), (b"db", b"")],
-    )?;
-    put(&rt, &mut round, 1132, &[1]);
-    put(&rt, &mut round, 1496, &[0xff; 4]);
-    refuses(
-        &rt,
-        rt.alloc(),
-        &round,
-        1541,
-        Some(DbError::BadHashTable(1024)),
-        "not reached",
-    )?;
-    Ok(())
-}
-
-#[test]
-fn keys_of_one_hash_may_differ_and_equal_keys_may_not(rt: HostRuntime) -> Result<(), Fail> {
-    let hash = [0x1e, 0xf6, 0x37, 0x6f];
-    let mut file = new_file(&rt);
-    put(&rt, &mut file, 1132, &[2]);
-    put_slot(
-        &rt,
-        &mut file,
-        14,
-        hash,
-        b"A----z",
-        [0, 6, 0, 0, 0, 0, 0, 0],
-        0,
-    );
-    put_slot(
-        &rt,
-        &mut file,
-        15,
-        hash,
-        b"a----j",
-        [6, 6, 0, 0, 0, 0, 0, 0],
-        1,
-    );
-    put(&rt, &mut file, 1536, b"A----za----j!");
-    has_records(
-        &rt,
-        rt.alloc(),
-        &file,
-        1549,
-        &[(b"A----z", b""), (b"a----j", b"!")],
-    )?;
-    put_slot(
-        &rt,
-        &mut file,
-        15,
-        hash,
-        b"A----z",
-        [0, 6, 0, 0, 0, 0, 0, 0],
-        1,
-    );
-    refuses(
-        &rt,
-        rt.alloc(),
-        &file,
-        1549,
-        Some(DbError::BadHashEntry(1024, 15)),
-        "equal keys",
-    )?;
+fn places_of_a_file_of_one_record(rt: HostRuntime) -> Result<(), Fail> {
+    let entry = DbError::BadHashEntry(1024, 7);
+    let kv: &[(&[u8], &[u8])] = &[(b"k", b"v")];
+    let rows = [
+        has("one record", &[], 1538, kv),
+        refused(
+            "a bucket beyond the end",
+            &[(512, &[3, 4])],
+            1538,
+            DbError::BadDirEntry(0),
+        ),
+        refused(
+            "an address below 0",
+            &[(519, &[0x80])],
+            1538,
+            DbError::BadDirEntry(0),
+        ),
+        refused(
+            "a run that is not whole",
+            &[(832, &[1])],
+            1538,
+            DbError::BadDirEntry(40),
+        ),
+        refused(
+            "a run without its last entry",
+            &[(1016, &[1])],
+            1538,
+            DbError::BadDirEntry(63),
+        ),
+        refused(
+            "an address that comes again",
+            &[(1128, &[1])],
+            1538,
+            DbError::BadDirEntry(32),
+        ),
+        refused(
+            "more bits than the directory",
+            &[(1128, &[7])],
+            1538,
+            DbError::BadBucket(1024),
+        ),
+        refused(
+            "seven free extents",
+            &[(1024, &[7])],
+            1538,
+            DbError::BadBucket(1024),
+        ),
+        refused(
+            "a count that is wrong",
+            &[(1132, &[2])],
+            1538,
+            DbError::BadHashTable(1024),
+        ),
+        refused("a hash that is wrong", &[(1304, &[0x18])], 1538, entry),
+        refused("a hash below 0", &[(1307, &[0x80])], 1538, entry),
+        refused(
+            "a first byte that is wrong",
+            &[(1308, &[0x6c])],
+            1538,
+            entry,
+        ),
+        has("a byte behind a short key", &[(1309, &[0xff])], 1538, kv),
+        refused("a record below 0", &[(1319, &[0x80])], 1538, entry),
+        refused("a record beyond the end", &[(1324, &[2])], 1538, entry),
+        refused("a key of a size below 0", &[(1323, &[0x80])], 1538, entry),
+        refused("a value above the limit", &[(1327, &[0x40])], 1538, entry),
+        refused("a key that is wrong", &[(1536, &[0x6c])], 1538, entry),
+        has(
+            "an empty slot of any content",
+            &[(1140, &[0xff; 20])],
+            1538,
+            kv,
+        ),
+        has(
+            "an empty value, and a record that stands nowhere",
+            &[(1132, &[2]), (1324, &[0]), (1352, &NOWHERE)],
+            1537,
+            &[(b"k", b""), (b"", b"")],
+        ),
+        refused(
+            "a slot that its home does not reach",
+            &[(1304, &[0xff; 4]), (1328, &K)],
+            1538,
+            DbError::BadHashTable(1024),
+        ),
+    ];
+    all_answer(&rt, rt.alloc(), &one_record(&rt), &rows);
     Ok(())
 }
 
 #[test]
 fn buckets_stand_in_their_runs(rt: HostRuntime) -> Result<(), Fail> {
-    // The hash of k begins with a 0 of 31 bits.
-    let mut file = two_buckets(&rt);
-    put(&rt, &mut file, 2048, b"kv");
-    let mut first = file;
-    put(&rt, &mut first, 1132, &[1]);
-    put_slot(
-        &rt,
-        &mut first,
-        7,
-        [0x17, 0x83, 0x09, 0x1b],
-        b"k",
-        [0, 8, 0, 0, 0, 0, 0, 0],
-        1,
-    );
-    has_records(&rt, rt.alloc(), &first, 2050, &[(b"k", b"v")])?;
-    let mut second = first;
-    put_entries(&rt, &mut second, 0, 32, &[0, 6]);
-    put_entries(&rt, &mut second, 32, 64, &[0, 4]);
-    refuses(
-        &rt,
-        rt.alloc(),
-        &second,
-        2050,
-        Some(DbError::BadHashEntry(1024, 7)),
-        "in the other bucket",
-    )?;
-    let mut uneven = file;
-    put(&rt, &mut uneven, 1128, &[2]);
-    put_entries(&rt, &mut uneven, 16, 64, &[0, 6]);
-    refuses(
+    // The first of the 31 bits of the hash of `k` is 0, so that it stands in the lower half.
+    let rows = [
+        has("two buckets", &[], 2050, &[]),
+        has(
+            "in the lower half",
+            &[(1132, &[1]), (1304, &K_BEHIND)],
+            2050,
+            &[(b"k", b"v")],
+        ),
+        refused(
+            "in the upper half",
+            &[(1644, &[1]), (1816, &K_BEHIND)],
+            2050,
+            DbError::BadHashEntry(1536, 7),
+        ),
+        refused(
+            "a run of half the entries",
+            &[(1128, &[2])],
+            2050,
+            DbError::BadDirEntry(16),
+        ),
+        refused(
+            "a run of twice the entries",
+            &[(1128, &[0])],
+            2050,
+            DbError::BadDirEntry(32),
+        ),
+    ];
+    all_answer(&rt, rt.alloc(), &two_buckets(&rt), &rows);
+    let mut uneven = two_buckets(&rt);
+    put_entries(&rt, &mut uneven, 16, 32, &[0, 6]);
+    all_answer(
         &rt,
         rt.alloc(),
         &uneven,
-        2050,
-        Some(DbError::BadDirEntry(16)),
-        "a run at no multiple",
-    )?;
+        &[refused(
+            "a run at no multiple",
+            &[(1128, &[2])],
+            2050,
+            DbError::BadDirEntry(16),
+        )],
+    );
     Ok(())
 }

@@ -1,4 +1,4 @@
-use Rattle.std.proofs.Common.{◌≡◌, ◌-◌, ◌^◌, ◌<◌, Some, sym, ◌∙◌, arith}
+use Rattle.std.proofs.Common.{◌≡◌, ◌^◌, Some, arith}
 use Rattle.gd_format.specs.File.{dir_fault, entry_fault}
 use Rattle.gd_verify.proofs.Steps.{walk_stops}
 use Rattle.gd_verify.proofs.Runs.{run_range}

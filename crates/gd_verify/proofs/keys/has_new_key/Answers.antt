@@ -1,5 +1,5 @@
-use Rattle.std.proofs.Common.{◌≡◌, Bool, true, false, not, sym, ap, ◌∙◌}
-use Rattle.gd_verify.proofs.Places.{new_by_hash, key_new_at}
+use Rattle.std.proofs.Common.{sym, ◌∙◌}
+use Rattle.gd_verify.proofs.Places.{key_new_at}
 use Rattle.gd_verify.proofs.keys.has_new_key.Goals as goal
 
 pub returns-in-Ok-true-clause-new : goal.returns-in-Ok-true-clause-new

@@ -1,5 +1,4 @@
-use Rattle.std.proofs.Common.{◌+◌, ◌<◌, ◌≤◌, ◌^◌, arith}
-use Rattle.std.proofs.Math.Nat.{pow-le-pow_right}
+use Rattle.std.proofs.Common.{arith}
 use Rattle.gd_verify.proofs.Left.{bucket_left, walk_bucket, header_of_walk, dir_of_walk}
 use Rattle.gd_verify.proofs.Runs.{run_range}
 use Rattle.gd_verify.proofs.records.next_bucket.Goals as goal

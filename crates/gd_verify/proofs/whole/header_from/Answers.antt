@@ -1,5 +1,4 @@
-use Rattle.std.proofs.Common.{◌≡◌, ◌≤◌, length, take, sym, arith}
-use Rattle.std.proofs.lemmas.List.{length-take-le}
+use Rattle.std.proofs.Common.{length, sym, arith}
 use Rattle.gd_format.specs.File.{front_of}
 use Rattle.gd_verify.proofs.Headers.{header_in}
 use Rattle.gd_verify.proofs.Fronts.{front_size}

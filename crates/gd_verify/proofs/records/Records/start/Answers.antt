@@ -1,4 +1,3 @@
-use Rattle.std.proofs.Common.{[]}
 use Rattle.gd_verify.proofs.Passing.{starts_whole}
 use Rattle.gd_verify.proofs.records.Records.start.Goals as goal
 
