@@ -1,3 +1,3 @@
-pub mod Smalls
+pub mod Inputs
 pub mod Waits
 pub mod Writes

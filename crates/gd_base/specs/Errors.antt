@@ -1,5 +1,8 @@
 -- The numbers and the names of the errors, as programs print them.
-use Rattle.std.specs.Prelude.{ℕ, List, codes}
+use Rattle.std.specs.Prelude.{ℕ, List, [], ◌∷◌, ◌++◌, codes}
+use Rattle.std.specs.Fmt.{decimal}
+use Rattle.gd_base.specs.declared.errors.Which.{Which}
+use Rattle.gd_base.specs.declared.errors.Which.TheVariants.{Only, Even, Odd}
 use Rattle.gd_base.specs.declared.errors.DbError.{DbError}
 use Rattle.gd_base.specs.declared.errors.DbError.TheVariants.{Absent, BlockSize, ShortFile, BadMagic, ByteSwapped, WrongOffset, BadHeader, BadDirEntry, BadBucket, BadHashTable, BadHashEntry, BadAvail, NeedRecovery, ReaderCant, ItemNotFound, CannotReplace, DirOverflow, TooLarge, FileFull, Exists, InUse, NotNumsync, AlreadyAtomic, SameName, InEpoch, NotOpen, VaultFault, ClockFault, OutOfMemory, ClockStood}
 
@@ -66,3 +69,28 @@ name_of VaultFault = codes "VaultFault"
 name_of ClockFault = codes "ClockFault"
 name_of OutOfMemory = codes "OutOfMemory"
 name_of (ClockStood old new) = codes "ClockStood"
+
+-- a number after a space
+abbrev pub spaced : ℕ → List ℕ
+spaced n = 32 ∷ decimal n
+
+-- which file is meant, where there are two
+abbrev pub which_text : Which → List ℕ
+which_text Only = []
+which_text Even = codes " even"
+which_text Odd = codes " odd"
+
+-- the values of an error, each after a space
+abbrev pub values_text : DbError → List ℕ
+values_text (BadDirEntry index) = spaced index
+values_text (BadBucket at) = spaced at
+values_text (BadHashTable at) = spaced at
+values_text (BadHashEntry at slot) = spaced at ++ spaced slot
+values_text (BadAvail at) = spaced at
+values_text (Exists which) = which_text which
+values_text (ClockStood old new) = spaced old ++ spaced new
+values_text e = []
+
+-- the error as programs print it: its number, its name and its values
+unfoldable pub error_text : DbError → List ℕ
+error_text e = codes "error" ++ (spaced (number_of e) ++ (32 ∷ name_of e ++ values_text e))

@@ -1,10 +1,8 @@
 pub mod Causes
-pub mod Content
+pub mod Clocks
 pub mod Errors
-pub mod Events
 pub mod Memory
 pub mod Names
 pub mod Pages
-pub mod Small
+pub mod Sources
 pub mod Streams
-pub mod Views

@@ -37,3 +37,12 @@ impl CallList {
         &self.numbers
     }
 }
+
+/// Takes no memory.
+impl From<Vec<u64>> for CallList {
+    ghost from_gives = { λ v c. c ≡ v.items };
+
+    fn from(numbers: Vec<u64>) -> CallList {
+        CallList { numbers }
+    }
+}

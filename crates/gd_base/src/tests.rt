@@ -1,6 +1,6 @@
 use crate::{
-    AddError, CallList, Datum, DbError, Failed, MemSink, Name, NameError, Page, Sink, SmallVault,
-    Vault, Which, flush, put,
+    CallList, Clock, Datum, DbError, Failed, MemClock, MemSink, MemSource, Name, NameError, Page,
+    Sink, Source, Which, flush, put,
 };
 use std::alloc::Global;
 use std::test::Fail;
@@ -118,24 +118,34 @@ fn a_page_hands_on_all_that_is_put(rt: HostRuntime) -> Result<(), Fail> {
 }
 
 #[test]
-fn a_small_vault_reads_what_was_added(rt: HostRuntime) -> Result<(), Fail> {
+fn a_source_gives_its_bytes_but_at_the_calls_of_its_list(rt: HostRuntime) -> Result<(), Fail> {
     let alloc = rt.alloc();
-    let mut vault = SmallVault::new(alloc);
-    let first = vault.add_file(named(alloc, "a")?, Datum::from_slice(alloc, b"alpha")?)?;
-    let second = vault.add_file(named(alloc, "b")?, Datum::from(vec![in alloc; 0u8; 2]?))?;
-    let again = vault.add_file(named(alloc, "a")?, Datum::from_slice(alloc, b"")?);
-    assert!(rt; again == Err(AddError::Exists));
-    assert!(rt; vault.lookup(&named(alloc, "b")?) == Ok(Some(second)));
-    assert!(rt; vault.lookup(&named(alloc, "c")?) == Ok(None));
-    let Ok(Some(found)) = vault.lookup(&named(alloc, "a")?) else {
-        return Err("a file".into());
-    };
-    assert!(rt; found == first);
-    assert!(rt; vault.len(found) == Ok(5));
-    let mut buf = [0u8; 4];
-    assert!(rt; vault.read_at(found, 2, &mut buf) == Ok(3));
-    assert_eq!(rt; buf, *b"pha\0");
-    assert!(rt; vault.read_at(found, u64::MAX, &mut buf) == Ok(0));
-    assert!(rt; vault.faults() == 0 && vault.moment() == 0);
+    let mut input = MemSource::new(
+        Datum::from_slice(alloc, b"alphabet")?,
+        CallList::from_slice(alloc, &[1])?,
+    );
+    let mut buf = [0u8; 5];
+    assert_eq!(rt; input.read(&mut buf), Ok(5));
+    assert_eq!(rt; &buf[..], b"alpha".as_slice());
+    assert_eq!(rt; input.read(&mut buf), Err(Failed));
+    assert_eq!(rt; input.read(&mut buf), Ok(3));
+    assert_eq!(rt; &buf[..3], b"bet".as_slice());
+    assert_eq!(rt; input.read(&mut buf), Ok(0));
+    assert_eq!(rt; input.faults(), 1);
+    Ok(())
+}
+
+#[test]
+fn a_clock_gives_its_last_number_for_good(rt: HostRuntime) -> Result<(), Fail> {
+    let alloc = rt.alloc();
+    let numbers = CallList::from_slice(alloc, &[7, 5])?;
+    let mut clock = MemClock::new(numbers, CallList::from_slice(alloc, &[1])?);
+    for reading in [Ok(7), Err(Failed), Ok(5), Ok(5)] {
+        assert_eq!(rt; clock.now(), reading);
+    }
+    assert_eq!(rt; clock.faults(), 1);
+    let none = CallList::from_slice(alloc, &[])?;
+    let mut empty = MemClock::new(none, CallList::from_slice(alloc, &[])?);
+    assert_eq!(rt; empty.now(), Ok(0));
     Ok(())
 }
