@@ -1,0 +1,11 @@
+pub mod Content
+pub mod Files
+pub mod FrameLeft
+pub mod Lawful
+pub mod Left
+pub mod Taken
+pub mod Stands
+pub mod Told
+pub mod Torn
+pub mod WasLeft
+pub mod Within

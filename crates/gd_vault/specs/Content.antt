@@ -1,0 +1,13 @@
+-- What a vault holds.
+use Rattle.std.specs.Prelude.{ℕ, List, Option}
+use Rattle.gd_vault.specs.declared.vaults.Mode.{Mode}
+
+pub record File : Type 0 where
+  pub bytes : List ℕ
+  pub mode : Mode
+  pub stamp : ℕ
+
+-- names stand for ids, ids for files
+pub record Content : Type 0 where
+  pub names : List ℕ → Option ℕ
+  pub files : ℕ → Option File

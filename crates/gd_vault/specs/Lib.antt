@@ -1,0 +1,13 @@
+pub mod Changes
+pub mod Content
+pub mod Effects
+pub mod Events
+pub mod Frame
+pub mod FrameLaws
+pub mod History
+pub mod Lawful
+pub mod Laws
+pub mod Stands
+pub mod Stay
+pub mod Streams
+pub mod Views

@@ -1,0 +1,15 @@
+//! Files with names, modes and stamps, which a crash may leave at any moment in one of several ways.
+#![tactic(auto)]
+
+mod laws;
+mod vault_sink;
+mod vault_source;
+mod vaults;
+
+pub use laws::{
+    calls_add, frame_images, frame_reads, frame_reflexive, frame_transitive, past_stays, reads_now,
+    was_is_left,
+};
+pub use vault_sink::VaultSink;
+pub use vault_source::VaultSource;
+pub use vaults::{CreateError, FileId, Mode, Vault};
