@@ -1,0 +1,9 @@
+pub mod Calls
+pub mod Candidates
+pub mod Disks
+pub mod Logs
+pub mod Names
+pub mod Ranges
+pub mod Running
+pub mod Sounds
+pub mod Staying

@@ -1,0 +1,7 @@
+pub mod Disk
+pub mod DiskData
+pub mod Ended
+pub mod Image
+pub mod Log
+pub mod LogData
+pub mod Memory
