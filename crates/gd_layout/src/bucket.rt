@@ -1,12 +1,15 @@
 //! A bucket, which takes one block.
 
-ghost use Rattle.std.specs.Prelude.{◌≡◌, ◌+◌, ◌*◌, ◌<◌, ◌≤◌, length, true, false, [], ◌∷◌, ◌++◌, slice_set, vec_capacity, IfNone, IfSome, IfOk, IfErr};
+ghost use Rattle.std.specs.Prelude.{◌≡◌, ◌+◌, ◌*◌, ◌^◌, ◌<◌, ◌≤◌, length, true, false, [], ◌∷◌, ◌++◌, replicate, slice_index_or, slice_set, vec_capacity, IfNone, IfSome, IfOk, IfErr};
+ghost use Rattle.std.specs.List.{All, remove};
 ghost use Rattle.gd_format.specs.Field.{bytes_at};
 ghost use Rattle.gd_format.specs.Bucket.{counts_at, raw_slot_at, raw_free_at, slot_of, extent_of, is_slot_signed_right, free_at, slots_at, are_slots_right, bucket_at, is_bucket};
 ghost use Rattle.gd_layout.specs.declared.bucket.LayoutError.TheVariants.{OutOfMemory};
 ghost use Rattle.gd_layout.specs.Answers.{Refuses};
+ghost use Rattle.gd_layout.specs.Fits.{FitsFields};
 
 use crate::{Layout, Native};
+use gd_base::OutOfMemory;
 use gd_format::{Extent, RawExtent, RawSlot, Slot};
 use std::alloc::{AllocError, AllocFailed, Global};
 use std::marker::Model;
@@ -17,6 +20,7 @@ use thiserror::Error;
 fn slot_from(raw: &RawSlot) -> Option<Slot>
     ensures none { IfNone result (is_slot_signed_right raw.now ≡ false) }
     ensures some { IfSome result (λ s. (is_slot_signed_right raw.now ≡ true) × (s ≡ slot_of raw.now)) }
+    ensures fits { IfSome result FitsFields }
 {
     if raw.hash == -1 {
         return Some(Slot::Empty);
@@ -70,35 +74,84 @@ pub struct Bucket {
 }
 
 impl Model for Bucket {
-    ghost use Rattle.std.specs.Prelude.{◌≤◌, vec_capacity};
+    ghost use Rattle.std.specs.Prelude.{vec_capacity};
     ghost use Rattle.gd_format.specs.Bucket as spec;
+    ghost use Rattle.gd_layout.specs.Fits.{FitsBucket};
 
     ghost Value = { spec.Bucket };
 
     ghost view = { λ b. record { bits = b.bits; free = b.free.items; slots = b.slots.items } };
 
-    ghost invariant = { λ b. 6 ≤ vec_capacity b.free };
+    ghost invariant = { λ b. FitsBucket b.bits b.free.items b.slots.items (vec_capacity b.free) };
 }
 
 impl Bucket {
+    /// A bucket of `elems` empty slots, without a free extent.
+    pub fn empty(alloc: Global, elems: u32, bits: u32) -> Result<Bucket, OutOfMemory>
+        requires { bits ≤ 24 }
+        ensures { IfOk result (λ b. b ≡ record { bits = bits; free = []; slots = replicate elems Slot.Empty }) }
+    {
+        let Ok(free) = Vec::with_capacity(alloc, 6) else {
+            return Err(OutOfMemory);
+        };
+        let Ok(slots) = vec![in alloc; Slot::Empty; elems as usize] else {
+            return Err(OutOfMemory);
+        };
+        Ok(Bucket { bits, free, slots })
+    }
+
+    /// An equal bucket, with the room for six free extents.
+    pub fn copy(&self) -> Result<Bucket, OutOfMemory>
+        ensures { IfOk result (λ b. b ≡ self.now) }
+    {
+        let alloc = *self.slots.allocator();
+        let Ok(mut free) = Vec::with_capacity(alloc, 6) else {
+            return Err(OutOfMemory);
+        };
+        let Ok(()) = free.extend_from_slice(&self.free) else {
+            return Err(OutOfMemory);
+        };
+        let Ok(slots) = self.slots.to_vec(alloc) else {
+            return Err(OutOfMemory);
+        };
+        Ok(Bucket {
+            bits: self.bits,
+            free,
+            slots,
+        })
+    }
+
     /// How many of the top bits of the hash its keys share.
     pub fn bits(&self) -> u32
-        ensures { result ≡ self.now.bits }
+        ensures is { result ≡ self.now.bits }
+        ensures most { result ≤ 24 }
     {
         self.bits
     }
 
-    /// The free extents that the bucket keeps, at most six.
+    /// The free extents that the bucket keeps.
     pub fn free(&self) -> &[Extent]
-        ensures { result.now ≡ self.now.free }
+        ensures are { result.now ≡ self.now.free }
+        ensures most { length result.now ≤ 6 }
     {
         self.free.as_slice()
     }
 
     pub fn slots(&self) -> &[Slot]
-        ensures { result.now ≡ self.now.slots }
+        ensures are { result.now ≡ self.now.slots }
+        ensures most { length result.now < 2 ^ 32 }
+        ensures fit { All FitsFields result.now }
     {
         self.slots.as_slice()
+    }
+
+    /// Puts a slot at a place.
+    pub fn put_slot(&mut self, place: u32, slot: Slot)
+        requires place { place < length self.old.slots }
+        requires fits { FitsFields slot }
+        ensures { self.new ≡ record self.old { slots = slice_set self.old.slots place slot } }
+    {
+        self.slots[place as usize] = slot;
     }
 
     /// Puts a free extent last. Takes no memory.
@@ -109,12 +162,13 @@ impl Bucket {
         let _ = self.free.push(extent);
     }
 
-    /// Puts a slot at a place.
-    pub fn put_slot(&mut self, place: u32, slot: Slot)
-        requires { place < length self.old.slots }
-        ensures { self.new ≡ record self.old { slots = slice_set self.old.slots place slot } }
+    /// Takes out the free extent at a place. Those after it move down by one place.
+    pub fn remove_free(&mut self, place: u32) -> Extent
+        requires { place < length self.old.free }
+        ensures rest { self.new ≡ record self.old { free = remove self.old.free place } }
+        ensures extent { result ≡ slice_index_or self.old.free place result }
     {
-        self.slots[place as usize] = slot;
+        self.free.remove(place as usize)
     }
 }
 
@@ -134,6 +188,7 @@ fn free_from(alloc: Global, bytes: &[u8], n: u32) -> Result<Vec<Extent>, AllocEr
     requires few { n ≤ 6 }
     requires size { 112 ≤ length bytes.now }
     ensures items { IfOk result (λ v. v.items ≡ free_at bytes.now n) }
+    ensures most { IfOk result (λ v. length v.items ≤ 6) }
     ensures room { IfOk result (λ v. 6 ≤ vec_capacity v) }
 {
     let mut free = Vec::with_capacity(alloc, 6)?;
@@ -148,6 +203,8 @@ fn free_from(alloc: Global, bytes: &[u8], n: u32) -> Result<Vec<Extent>, AllocEr
 fn slots_from(alloc: Global, bytes: &[u8], elems: u32) -> Result<Vec<Slot>, LayoutError>
     requires { 112 + 24 * elems ≤ length bytes.now }
     ensures ok { IfOk result (λ v. (v.items ≡ slots_at bytes.now elems) × (are_slots_right bytes.now elems ≡ true)) }
+    ensures fit { IfOk result (λ v. All FitsFields v.items) }
+    ensures most { IfOk result (λ v. length v.items < 2 ^ 32) }
     ensures bad { IfErr result (Refuses (are_slots_right bytes.now elems ≡ false)) }
 {
     let mut slots = Vec::with_capacity(alloc, elems as usize)?;

@@ -54,7 +54,8 @@ pub fn hash_more(place: u64, v: u64, bytes: &[u8]) -> u64
 /// The hash, by what all bytes gave.
 pub fn hash_end(v: u64) -> u32
     requires { v < 2 ^ 32 }
-    ensures { result ≡ (1103515243 * v + 12345) % 2 ^ 31 }
+    ensures value { result ≡ (1103515243 * v + 12345) % 2 ^ 31 }
+    ensures fits { result < 2 ^ 31 }
 {
     ((1_103_515_243 * v + 12345) % (1 << 31)) as u32
 }
@@ -62,7 +63,8 @@ pub fn hash_end(v: u64) -> u32
 /// The hash of a key, which has 31 bits.
 #[tactic(auto, unfolding(gd_format::specs::Hash::hash_of))]
 pub fn hash(key: &[u8]) -> u32
-    ensures { result ≡ hash_of key.now }
+    ensures value { result ≡ hash_of key.now }
+    ensures fits { result < 2 ^ 31 }
 {
     hash_end(hash_more(0, hash_start(key.len() as u64), key))
 }

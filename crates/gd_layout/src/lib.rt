@@ -10,10 +10,12 @@ mod hashing;
 mod header;
 #[cfg(test)]
 mod tests;
+mod writing;
 
 pub use crate::bucket::{Bucket, LayoutError};
 pub use crate::fields::{i32_from, i64_from, u32_from, u64_from};
 pub use crate::hashing::{hash, hash_end, hash_more, hash_start};
+pub use crate::writing::{full_count, is_full};
 pub use gd_base::{DbError, Format};
 pub use gd_format::{Counts, Extent, Header, RawAvail, RawExtent, RawSlot, Slot};
 

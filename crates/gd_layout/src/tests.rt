@@ -1,7 +1,11 @@
+ghost use Rattle.std.specs.Prelude.{◌≡◌, ◌+◌, ◌*◌, ◌^◌, ◌<◌, ◌≤◌, length, IfOk, IfErr};
+ghost use Rattle.gd_layout.specs.Answers.{Refuses};
+
 use crate::{
-    Counts, DbError, Extent, Format, Header, LayoutError, Native, RawSlot, Slot, hash, hash_end,
-    hash_more, hash_start,
+    Bucket, Counts, DbError, Extent, Format, Header, LayoutError, Native, RawSlot, Slot, hash,
+    hash_end, hash_more, hash_start,
 };
+use std::alloc::Global;
 use std::process::Abort;
 use std::test::Fail;
 
@@ -229,4 +233,83 @@ fn what_is_no_bucket(rt: HostRuntime) {
             Err(e) => assert!(rt; e == LayoutError::Bad && !*is_one, "row {i}"),
         }
     }
+}
+
+// What is read where a bucket was written is that bucket, and is never refused.
+fn written_and_read(alloc: Global, bucket: &Bucket, block: &mut [u8]) -> Result<Bucket, LayoutError>
+    requires room { 112 + 24 * length bucket.now.slots ≤ length block.old }
+    requires count { length bucket.now.slots < 2 ^ 31 }
+    ensures same { IfOk result (λ b. b ≡ bucket.now) }
+    ensures never_bad { IfErr result (Refuses ⊥) }
+{
+    Native::write_bucket(bucket, block);
+    let read = Native::read_bucket(alloc, block, bucket.slots().len() as u32)?;
+    Ok(read)
+}
+
+#[test]
+fn a_bucket_is_written(rt: HostRuntime) -> Result<(), Fail> {
+    let mut bucket = Bucket::empty(rt.alloc(), 16, 0)?;
+    bucket.push_free(Extent {
+        at: 1536,
+        size: 512,
+    });
+    let mut block = [0xaa; 512];
+    Native::write_bucket(&bucket, &mut block);
+    // A new file has this bucket at its end.
+    let mut want = [0u8; 512];
+    put(&rt, &mut want, 0, b"\x01");
+    put(&rt, &mut want, 8, b"\0\x02");
+    put(&rt, &mut want, 16, b"\0\x06");
+    for s in 0..16 {
+        put(&rt, &mut want, 112 + 24 * s, b"\xff\xff\xff\xff");
+    }
+    assert!(rt; block == want);
+
+    let full = Slot::Full {
+        hash: 453_608_215,
+        start: [b'k', b'x', b'y', b'z'],
+        at: 1536,
+        key_size: 1,
+        value_size: 2,
+    };
+    bucket.put_slot(7, full);
+    Native::write_bucket(&bucket, &mut block);
+    assert!(rt; block == bucket_with_k(&rt));
+    let mut again = [0x55; 600];
+    let read = written_and_read(rt.alloc(), &bucket, &mut again)?;
+    assert!(rt; read.slots() == bucket.slots() && read.free() == bucket.free());
+    Ok(())
+}
+
+#[test]
+fn free_extents_of_a_bucket(rt: HostRuntime) -> Result<(), Fail> {
+    let mut bucket = Bucket::empty(rt.alloc(), 16, 3)?;
+    for i in 0u32..6 {
+        let few = bucket.free().len() < 6;
+        assert!(rt; few);
+        bucket.push_free(Extent {
+            at: u64::from(i),
+            size: 10 + i,
+        });
+    }
+    let mut copy = bucket.copy()?;
+    assert!(rt; bucket.free().len() == 6);
+    assert!(rt; bucket.remove_free(1) == Extent { at: 1, size: 11 });
+    assert!(rt; bucket.free().len() == 5);
+    assert!(rt; bucket.remove_free(4) == Extent { at: 5, size: 15 });
+    let left = [0u32, 2, 3, 4];
+    assert_eq!(rt; bucket.free().len(), 4);
+    for (extent, i) in bucket.free().iter().zip(left) {
+        assert!(rt;
+            *extent
+                == Extent {
+                    at: u64::from(i),
+                    size: 10 + i
+                }
+        );
+    }
+    assert!(rt; copy.bits() == 3 && copy.free().len() == 6 && copy.slots().len() == 16);
+    assert!(rt; copy.remove_free(1) == Extent { at: 1, size: 11 });
+    Ok(())
 }

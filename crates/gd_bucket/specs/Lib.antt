@@ -1,0 +1,4 @@
+pub mod Probing
+pub mod Removing
+pub mod Splitting
+pub mod Map

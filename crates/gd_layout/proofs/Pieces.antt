@@ -1,0 +1,62 @@
+-- Bytes that are written at a place, and the fields before it.
+use Rattle.std.proofs.Common.{◌≡◌, ℕ, ◌+◌, ◌^◌, ◌<◌, ◌≤◌, List, ◌++◌, length, take, drop, sym, ap, ◌∙◌}
+use Rattle.std.proofs.lemmas.List.{take-take, drop-take, drop_at, take-append-le, length-take-le}
+use Rattle.std.proofs.lemmas.Int.{to_z_pos}
+use Rattle.std.specs.Prelude.{pos}
+use Rattle.std.specs.Int.{w32, w64, cast_signed}
+use Rattle.byteorder.specs.Endian.{little_bytes}
+use Rattle.byteorder.specs.Numbers.{little_number-reads_back}
+use borrow.Rule.Slice.PartMut.{put_mid, post_of}
+use Rattle.gd_format.specs.Field.{number_of, bytes_at, u32_at, u64_at, i32_at, i64_at}
+use Rattle.gd_layout.proofs.Numbers.{little_from-number_of}
+
+pub bytes_at-own : (a k n : ℕ) (xs ys : List ℕ) → a ≤ length xs → n ≤ length ys → bytes_at (put_mid a k xs ys) a n ≡ take n ys
+bytes_at-own a k n xs ys h le =
+    ap (take n) (drop_at (take a xs) (ys ++ post_of a k xs) a (length-take-le a xs h)) ∙ take-append-le n ys (post_of a k xs) le
+
+read_back : (n x : ℕ) (rest : List ℕ) → x < 256 ^ n → number_of (take n (little_bytes n x ++ rest)) ≡ x
+read_back n x rest h = sym (little_from-number_of n (little_bytes n x ++ rest)) ∙ little_number-reads_back n x rest h
+
+pub put_4 : (a k n : ℕ) (xs ys rest : List ℕ) → a ≤ length xs → 4 ≤ length ys → ys ≡ little_bytes 4 n ++ rest → n < 256 ^ 4 → u32_at (put_mid a k xs ys) a ≡ n
+unfolding u32_at
+put_4 a k n xs ys rest h le e lt =
+    ap number_of (bytes_at-own a k 4 xs ys h le) ∙ ap (λ (zs : List ℕ). number_of (take 4 zs)) e ∙ read_back 4 n rest lt
+
+pub put_8 : (a k n : ℕ) (xs ys rest : List ℕ) → a ≤ length xs → 8 ≤ length ys → ys ≡ little_bytes 8 n ++ rest → n < 256 ^ 8 → u64_at (put_mid a k xs ys) a ≡ n
+unfolding u64_at
+put_8 a k n xs ys rest h le e lt =
+    ap number_of (bytes_at-own a k 8 xs ys h le) ∙ ap (λ (zs : List ℕ). number_of (take 8 zs)) e ∙ read_back 8 n rest lt
+
+-- ---- what a shared front gives
+
+pub take-front : (n m : ℕ) (xs ys : List ℕ) → n ≤ m → take m xs ≡ take m ys → take n xs ≡ take n ys
+take-front n m xs ys le e = sym (take-take n m xs le) ∙ ap (take n) e ∙ take-take n m ys le
+
+pub bytes_at-front : (a n m : ℕ) (xs ys : List ℕ) → a + n ≤ m → take m xs ≡ take m ys → bytes_at xs a n ≡ bytes_at ys a n
+bytes_at-front a n m xs ys le e =
+    sym (drop-take a n xs) ∙ ap (drop a) (take-front (a + n) m xs ys le e) ∙ drop-take a n ys
+
+pub u32_at-front : (a m : ℕ) (xs ys : List ℕ) → a + 4 ≤ m → take m xs ≡ take m ys → u32_at xs a ≡ u32_at ys a
+unfolding u32_at
+u32_at-front a m xs ys le e = ap number_of (bytes_at-front a 4 m xs ys le e)
+
+pub u64_at-front : (a m : ℕ) (xs ys : List ℕ) → a + 8 ≤ m → take m xs ≡ take m ys → u64_at xs a ≡ u64_at ys a
+unfolding u64_at
+u64_at-front a m xs ys le e = ap number_of (bytes_at-front a 8 m xs ys le e)
+
+pub i32_at-front : (a m : ℕ) (xs ys : List ℕ) → a + 4 ≤ m → take m xs ≡ take m ys → i32_at xs a ≡ i32_at ys a
+unfolding i32_at
+i32_at-front a m xs ys le e = ap (cast_signed w32) (u32_at-front a m xs ys le e)
+
+pub i64_at-front : (a m : ℕ) (xs ys : List ℕ) → a + 8 ≤ m → take m xs ≡ take m ys → i64_at xs a ≡ i64_at ys a
+unfolding i64_at
+i64_at-front a m xs ys le e = ap (cast_signed w64) (u64_at-front a m xs ys le e)
+
+-- a number from 0 on, as a field with a sign
+pub i32_is : (xs : List ℕ) (at n : ℕ) → u32_at xs at ≡ n → n < 2 ^ 31 → i32_at xs at ≡ pos n
+unfolding i32_at
+i32_is xs at n e lt = ap (cast_signed w32) e ∙ to_z_pos w32 n lt
+
+pub i64_is : (xs : List ℕ) (at n : ℕ) → u64_at xs at ≡ n → n < 2 ^ 63 → i64_at xs at ≡ pos n
+unfolding i64_at
+i64_is xs at n e lt = ap (cast_signed w64) e ∙ to_z_pos w64 n lt

@@ -1,0 +1,25 @@
+use Rattle.std.proofs.Common.{sym, ◌∙◌}
+use Rattle.gd_layout.proofs.Written.{full_reads, full_right, full_front, empty_reads, empty_right}
+use Rattle.gd_layout.proofs.writing.put_slot.Goals as goal
+
+pub returns-in-Empty-clause-reads : goal.returns-in-Empty-clause-reads
+returns-in-Empty-clause-reads c = empty_reads c.put_u32.new.block c.args.at c.put_u32.ensures.reads ∙ sym c.in-Empty.is
+
+pub returns-in-Empty-clause-right : goal.returns-in-Empty-clause-right
+returns-in-Empty-clause-right c = empty_right c.put_u32.new.block c.args.at c.put_u32.ensures.reads
+
+pub returns-in-Full-clause-reads : goal.returns-in-Full-clause-reads
+returns-in-Full-clause-reads c =
+    let fits = rw c.in-Full.is at c.requires.fits in
+    full_reads c.put_u32-in-Full.new.block c.put_four.new.block c.put_u64.new.block c.put_u32-in-Full-2.new.block c.put_u32-in-Full-3.new.block c.args.at c.in-Full.hash c.in-Full.place c.in-Full.key_size c.in-Full.value_size c.in-Full.start c.put_u32-in-Full.ensures.reads c.put_four.ensures.reads c.put_u64.ensures.reads c.put_u32-in-Full-2.ensures.reads c.put_u32-in-Full-3.ensures.reads c.put_four.ensures.front c.put_u64.ensures.front c.put_u32-in-Full-2.ensures.front c.put_u32-in-Full-3.ensures.front fits.0 fits.1 fits.2 fits.3
+    ∙ sym c.in-Full.is
+
+pub returns-in-Full-clause-right : goal.returns-in-Full-clause-right
+returns-in-Full-clause-right c =
+    let fits = rw c.in-Full.is at c.requires.fits in
+    full_right c.put_u32-in-Full.new.block c.put_four.new.block c.put_u64.new.block c.put_u32-in-Full-2.new.block c.put_u32-in-Full-3.new.block c.args.at c.in-Full.hash c.in-Full.place c.in-Full.key_size c.in-Full.value_size c.in-Full.start c.put_u32-in-Full.ensures.reads c.put_four.ensures.reads c.put_u64.ensures.reads c.put_u32-in-Full-2.ensures.reads c.put_u32-in-Full-3.ensures.reads c.put_four.ensures.front c.put_u64.ensures.front c.put_u32-in-Full-2.ensures.front c.put_u32-in-Full-3.ensures.front fits.0 fits.1 fits.2 fits.3
+
+pub returns-in-Full-clause-front : goal.returns-in-Full-clause-front
+returns-in-Full-clause-front c =
+    let fits = rw c.in-Full.is at c.requires.fits in
+    full_front c.put_u32-in-Full.new.block c.put_four.new.block c.put_u64.new.block c.put_u32-in-Full-2.new.block c.put_u32-in-Full-3.new.block c.args.at c.in-Full.hash c.in-Full.place c.in-Full.key_size c.in-Full.value_size c.in-Full.start c.put_u32-in-Full.ensures.reads c.put_four.ensures.reads c.put_u64.ensures.reads c.put_u32-in-Full-2.ensures.reads c.put_u32-in-Full-3.ensures.reads c.put_four.ensures.front c.put_u64.ensures.front c.put_u32-in-Full-2.ensures.front c.put_u32-in-Full-3.ensures.front fits.0 fits.1 fits.2 fits.3 c.args.block.now c.put_u32-in-Full.ensures.front

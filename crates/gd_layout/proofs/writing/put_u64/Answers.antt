@@ -1,0 +1,11 @@
+use Rattle.std.proofs.Common.{◌-◌, ◌≤◌, length, take, drop, ap, arith}
+use Rattle.gd_layout.proofs.Pieces.{put_8}
+use Rattle.gd_layout.proofs.writing.put_u64.Goals as goal
+
+pub returns-clause-reads : goal.returns-clause-reads
+returns-clause-reads c =
+    let xs = c.args.block.now in
+    let at = c.args.at in
+    let buf = c.write_u64.new.buf in
+    let long : 8 ≤ length c.write_u64.new.buf = omega (arith, ap length c.write_u64.ensures) in
+    put_8 c.args.at _ c.args.n c.args.block.now c.write_u64.new.buf (drop 8 (take (length c.args.block.now - c.args.at) (drop c.args.at c.args.block.now))) (omega arith) long c.write_u64.ensures (omega arith)
