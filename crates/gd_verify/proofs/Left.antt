@@ -3,13 +3,13 @@ use Rattle.std.proofs.Common.{◌≡◌, ℕ, ◌+◌, ◌-◌, ◌*◌, ◌<◌
 use Rattle.gd_format.specs.declared.Header.{Header}
 use Rattle.gd_format.specs.Bucket.{raw_slot_at}
 use Rattle.gd_format.specs.HeaderFault.{header_of}
-use Rattle.gd_format.specs.File.{file_fault, dir_fault, front_of, entries_of, block_of, is_first, is_full_at, is_record_in, key_of, value_of}
+use Rattle.gd_format.specs.File.{file_fault, dir_fault, front_of, entries_of, block_of, is_first, are_fields_right, is_full_at, is_record_in, key_of, value_of}
 use Rattle.gd_format.proofs.Firsts.{or_else-none}
 use Rattle.gd_format.proofs.Pieces.{length-bytes_at}
 use Rattle.gd_verify.specs.Checks.{IsHeaderIn}
 use Rattle.gd_verify.specs.Left.{IsWalk, passing_from, slots_left, buckets_left, records_left}
 use Rattle.gd_verify.proofs.Headers.{header_in}
-use Rattle.gd_verify.proofs.Walk.{record_in, dir_none, bucket_place}
+use Rattle.gd_verify.proofs.Walks.{record_in, fields_in, dir_none, bucket_place}
 use Rattle.gd_verify.proofs.Passing.{slots_step, buckets_step}
 
 header_whole : (file : List ℕ) → file_fault file ≡ None → IsHeaderIn (header_of (front_of file)) (length file)
@@ -46,6 +46,27 @@ module _ (file : List ℕ) (h : Header) (i : ℕ) (block : List ℕ) (s : ℕ) (
       let there : is_full_at (block_of file h (i - 1)) t ≡ true = rw at at full in
       rw at (record_in file h dir_of_walk (i - 1) (omega arith) t lt there)
 
+  pub fields_of_walk : (t : ℕ) → s ≤ t → t < h.elems → is_full_at block t ≡ true → are_fields_right (raw_slot_at block t) ≡ true
+  fields_of_walk t le lt full =
+      let s_lt : s < h.elems = omega arith in
+      let some = w.begun s_lt in
+      let entries = w.entries in
+      let at = w.in_bucket s_lt in
+      let there : is_full_at (block_of file h (i - 1)) t ≡ true = rw at at full in
+      rw at (fields_in file h dir_of_walk (i - 1) (omega arith) t lt there)
+
+  -- behind the last slot
+  pub walk_behind : (next : List ℕ) → IsWalk file h i next h.elems
+  walk_behind next =
+      record {
+        readable = w.readable;
+        header = w.header;
+        entries = w.entries;
+        slots = omega arith;
+        begun = λ l. absurd (omega arith);
+        in_bucket = λ l. absurd (omega arith);
+      }
+
   -- one record on
   pub walk_slot : (t : ℕ) → s ≤ t → t < h.elems → IsWalk file h i block (t + 1)
   walk_slot t le lt =
@@ -76,3 +97,14 @@ module _ (file : List ℕ) (h : Header) (i : ℕ) (block : List ℕ) (s : ℕ) (
 
   pub bucket_left : (j : ℕ) (next : List ℕ) → passing_from (is_first file h) (entries_of h) i ≡ j ∷ passing_from (is_first file h) (entries_of h) (j + 1) → next ≡ block_of file h j → buckets_left file h i ≡ records_left file h (j + 1) next 0
   bucket_left j next e n = buckets_step file h i j e ∙ rw n refl
+
+pub walk_start : (file : List ℕ) (h : Header) (block : List ℕ) → file_fault file ≡ None → h ≡ header_of (front_of file) → IsWalk file h 0 block h.elems
+walk_start file h block none is =
+    record {
+      readable = none;
+      header = is;
+      entries = omega arith;
+      slots = omega arith;
+      begun = λ l. absurd (omega arith);
+      in_bucket = λ l. absurd (omega arith);
+    }

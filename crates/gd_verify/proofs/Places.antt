@@ -1,7 +1,8 @@
 -- Bytes at places, and slots by their hashes.
-use Rattle.std.proofs.Common.{eqb, leb, ◌||◌, ◌≤◌, length, ◌≡◌, ℕ, ◌+◌, ◌<◌, ◌≢◌, Bool, true, false, not, List, [], refl, sym, ap, ◌∙◌, arith}
+use Rattle.std.proofs.Common.{zero, suc, take, drop, Option, Some, eqb, leb, ◌||◌, ◌≤◌, length, ◌≡◌, ℕ, ◌+◌, ◌<◌, ◌≢◌, Bool, true, false, not, List, [], refl, sym, ap, ◌∙◌, arith}
 use Rattle.std.specs.Str.{bytes_eq}
 use Rattle.std.proofs.lemmas.Slice.Eq.{bytes_eq-Decides}
+use Rattle.std.proofs.lemmas.List.{take-take, drop-take, drop-drop}
 use Rattle.gd_format.specs.Field.{bytes_at}
 use Rattle.gd_format.specs.Hash.{hash_of}
 use Rattle.gd_format.specs.declared.RawSlot.{RawSlot}
@@ -10,8 +11,10 @@ use Rattle.std.specs.Prelude.{ℤ, pos, negsuc, nat_eq}
 use Rattle.std.proofs.lemmas.Bool.Decides.{Decides-eqb, nat_tests}
 use Rattle.std.specs.HashSet.{contains}
 use Rattle.gd_format.specs.Bucket.{raw_slot_at}
-use Rattle.gd_format.specs.File.{key_of, is_record_in, is_full_at, is_key_new, is_key_of, is_other_key}
+use Rattle.gd_verify.specs.Standing.{place_of}
+use Rattle.gd_format.specs.File.{key_of, value_of, size_of, is_record_in, is_full_at, is_key_new, is_key_of, is_other_key}
 use Rattle.gd_format.proofs.Firsts.{all_below_from, and-true}
+use Rattle.gd_format.proofs.Pieces.{bytes_eq-lengths, length-bytes_at}
 use Rattle.gd_verify.specs.Checks.{Numbers, HasKey, HaveKeys, SeesHashes}
 
 -- no bytes from any place on
@@ -70,3 +73,34 @@ sizes_in a k v n h = (λ some. grind (arith, nat_tests), λ some. grind (arith, 
 pub record_parts : (len : ℕ) (r : RawSlot) → is_record_in len r ≡ true → (0 < natural r.key_size → natural r.at + natural r.key_size ≤ len) × (0 < natural r.value_size → natural r.at + natural r.key_size + natural r.value_size ≤ len)
 unfolding is_record_in
 record_parts len r h = sizes_in (natural r.at) (natural r.key_size) (natural r.value_size) len h
+
+size_is : (file : List ℕ) (at n : ℕ) → (0 < n → at + n ≤ length file) → length (bytes_at file at n) ≡ n
+size_is file at zero h = refl
+size_is file at (suc n) h = length-bytes_at file at (suc n) (h (omega arith))
+
+-- keys of two sizes differ
+pub other_size : (file : List ℕ) (a b : RawSlot) → (0 < natural a.key_size → natural a.at + natural a.key_size ≤ length file) → (0 < natural b.key_size → natural b.at + natural b.key_size ≤ length file) → natural b.key_size ≢ natural a.key_size → false ≡ bytes_eq (key_of file a) (key_of file b)
+unfolding key_of
+other_size file a b in_a in_b ne = sym (bytes_eq-lengths (key_of file a) (key_of file b) (λ e. ne (sym (size_is file (natural b.at) (natural b.key_size) in_b) ∙ sym e ∙ size_is file (natural a.at) (natural a.key_size) in_a)))
+
+sum_in : (a k v n : ℕ) → (eqb (k + v) 0 || leb (a + (k + v)) n) ≡ true → 0 < k + v → a + (k + v) ≤ n
+sum_in a k v n h some = grind (arith, nat_tests)
+
+pub record_inside : (len : ℕ) (r : RawSlot) → is_record_in len r ≡ true → 0 < size_of r → natural r.at + size_of r ≤ len
+unfolding is_record_in
+record_inside len r h some = sum_in (natural r.at) (natural r.key_size) (natural r.value_size) len h some
+
+-- the key and the value in the bytes of a record
+pub key_part : (file bytes : List ℕ) (r : RawSlot) → bytes ≡ bytes_at file (natural r.at) (size_of r) → take (natural r.key_size) bytes ≡ key_of file r
+unfolding key_of
+key_part file bytes r e = ap (take (natural r.key_size)) e ∙ take-take (natural r.key_size) (size_of r) (drop (natural r.at) file) (omega arith)
+
+pub value_part : (file bytes : List ℕ) (r : RawSlot) → bytes ≡ bytes_at file (natural r.at) (size_of r) → drop (natural r.key_size) bytes ≡ value_of file r
+unfolding value_of
+value_part file bytes r e =
+    ap (drop (natural r.key_size)) e ∙ drop-take (natural r.key_size) (natural r.value_size) (drop (natural r.at) file) ∙ ap (take (natural r.value_size)) (drop-drop (natural r.key_size) (natural r.at) file)
+
+-- an address that is one
+pub place_is : (z : ℤ) (n : ℕ) → z ≡ pos n → place_of z ≡ Some (natural z)
+place_is (pos m) n e = refl
+place_is (negsuc m) n e = absurd cc

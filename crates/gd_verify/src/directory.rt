@@ -71,7 +71,7 @@ pub fn block_from<'a>(file: &'a [u8], header: &Header, i: u64, at: u64) -> &'a [
 
 // How many entries the bucket of a block has, where its counts are in range.
 #[tactic(auto, unfolding(gd_format::specs::File::are_counts_right), using(crate::proofs::Runs::run_range))]
-fn run_of(header: &Header, block: &[u8]) -> Option<u64>
+pub fn run_of(header: &Header, block: &[u8]) -> Option<u64>
     requires size { 112 ≤ length block.now }
     requires bits { header.now.dir_bits ≤ 24 }
     ensures none { IfNone result (are_counts_right header.now block.now ≡ false) }

@@ -25,7 +25,7 @@ pub fn natural_of_64(z: i64) -> u64
 }
 
 // The hash of a full slot.
-fn hash_field(raw: &RawSlot) -> u32
+pub fn hash_field(raw: &RawSlot) -> u32
     ensures { result ≡ natural raw.now.hash }
 {
     natural_of(raw.hash)
@@ -68,7 +68,7 @@ pub fn bytes_from(file: &[u8], at: u64, size: u32) -> &[u8]
 }
 
 #[tactic(auto, unfolding(gd_format::specs::File::are_fields_right))]
-fn has_right_fields(raw: &RawSlot) -> bool
+pub fn has_right_fields(raw: &RawSlot) -> bool
     ensures { result ≡ are_fields_right raw.now }
 {
     raw.hash >= 0
@@ -81,7 +81,7 @@ fn has_right_fields(raw: &RawSlot) -> bool
 
 // Does the record of a slot end in a file of `len` bytes?
 #[tactic(auto, unfolding(gd_format::specs::File::is_record_in))]
-fn has_record_in(len: u64, raw: &RawSlot) -> bool
+pub fn has_record_in(len: u64, raw: &RawSlot) -> bool
     ensures value { result ≡ is_record_in len raw.now }
     ensures key { result ≡ true → 0 < natural raw.now.key_size → natural raw.now.at + natural raw.now.key_size ≤ len }
 {
@@ -115,7 +115,7 @@ fn starts_with(key: &[u8], start: &[u8]) -> bool
 
 // Has a key the hash and the first bytes of its slot, and the hash the top bits of the run?
 #[tactic(auto, unfolding(gd_format::specs::File::is_key_of))]
-fn is_key_right(raw: &RawSlot, bits: u32, top: u64, key: &[u8]) -> bool
+pub fn is_key_right(raw: &RawSlot, bits: u32, top: u64, key: &[u8]) -> bool
     requires { bits ≤ 24 }
     ensures { result ≡ is_key_of bits top raw.now key.now }
 {

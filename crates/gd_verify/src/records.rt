@@ -41,7 +41,7 @@ impl<'a> Model for Records<'a> {
 
 // The next full slot of a bucket, from one on.
 #[tactic(auto, using(crate::proofs::Passing::passing_on, crate::proofs::Passing::passing_found, crate::proofs::Passing::passing_end))]
-fn next_full(block: &[u8], elems: u32, from: u32) -> Option<u32>
+pub fn next_full(block: &[u8], elems: u32, from: u32) -> Option<u32>
     requires size { 112 + 24 * elems ≤ length block.now }
     requires slot { from ≤ elems }
     ensures some { IfSome result (λ s. (from ≤ s) × (s < elems) × (is_full_at block.now s ≡ true) × (passing_from (is_full_at block.now) elems from ≡ s ∷ passing_from (is_full_at block.now) elems (s + 1))) }
@@ -56,7 +56,7 @@ fn next_full(block: &[u8], elems: u32, from: u32) -> Option<u32>
 }
 
 // Has the directory an address first at an entry? In a readable file it has where the entry before is another one.
-#[tactic(auto, using(crate::proofs::Walk::first_at_start, crate::proofs::Walk::first_after, crate::proofs::Walk::not_first))]
+#[tactic(auto, using(crate::proofs::Walks::first_at_start, crate::proofs::Walks::first_after, crate::proofs::Walks::not_first))]
 fn is_first_entry(file: &[u8], header: &Header, i: u64) -> bool
     requires header { IsHeaderIn header.now (length file.now) }
     requires readable { dir_fault file.now header.now ≡ None }

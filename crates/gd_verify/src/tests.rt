@@ -1,5 +1,7 @@
-use crate::{Records, check, file_refusal};
+use crate::small_vault::SmallVault;
+use crate::{Records, Walk, check, file_refusal, readable};
 use gd_base::DbError;
+use gd_vault::FileId;
 use std::alloc::Global;
 use std::process::Abort;
 use std::test::Fail;
@@ -131,6 +133,41 @@ fn has_records(rt: &impl Abort, alloc: Global, file: &[u8], row: &Row) {
     }
 }
 
+fn vault_of(rt: &impl Abort, alloc: Global, file: &[u8], reads: u64) -> Option<SmallVault> {
+    match file.to_vec(alloc) {
+        Ok(bytes) => Some(SmallVault {
+            bytes,
+            reads_left: reads,
+            faults: 0,
+        }),
+        Err(_) => {
+            assert!(rt; false, "out of memory");
+            None
+        }
+    }
+}
+
+fn walk_gives(rt: &impl Abort, alloc: Global, vault: &mut SmallVault, row: &Row) {
+    match readable(alloc, vault, FileId(0)) {
+        Ok(header) => {
+            let Ok(mut walk) = Walk::start(alloc, vault, FileId(0), &header) else {
+                return assert!(rt; false, "{}", row.name);
+            };
+            for pair in row.records {
+                let Ok(Some((key, value))) = walk.next(vault) else {
+                    return assert!(rt; false, "{}", row.name);
+                };
+                assert!(rt; key.as_slice() == pair.0, "{}", row.name);
+                assert!(rt; value.as_slice() == pair.1, "{}", row.name);
+            }
+            let end = walk.next(vault).is_ok_and(|next| next.is_none());
+            assert!(rt; end, "{}", row.name);
+            assert!(rt; row.refusal.is_none(), "{}", row.name);
+        }
+        Err(e) => assert_eq!(rt; Some(e), row.refusal, "{}", row.name),
+    }
+}
+
 fn answers(rt: &impl Abort, alloc: Global, base: &[u8; ROOM], row: &Row) {
     let mut file = *base;
     for (at, bytes) in row.edits {
@@ -144,6 +181,10 @@ fn answers(rt: &impl Abort, alloc: Global, base: &[u8; ROOM], row: &Row) {
         row.name
     );
     has_records(rt, alloc, file, row);
+    if let Some(mut vault) = vault_of(rt, alloc, file, 1 << 20) {
+        walk_gives(rt, alloc, &mut vault, row);
+        assert!(rt; vault.faults == 0);
+    }
 }
 
 fn all_answer(rt: &impl Abort, alloc: Global, base: &[u8; ROOM], rows: &[Row]) {
@@ -360,5 +401,29 @@ fn buckets_stand_in_their_runs(rt: HostRuntime) -> Result<(), Fail> {
             DbError::BadDirEntry(16),
         )],
     );
+    Ok(())
+}
+
+#[test]
+fn each_read_that_fails_is_a_fault_of_the_vault(rt: HostRuntime) -> Result<(), Fail> {
+    let whole = one_record(&rt);
+    let Some(file) = whole.get(..1538) else {
+        return Ok(());
+    };
+    let mut readable_after = None;
+    for reads in 0..200 {
+        if let Some(mut vault) = vault_of(&rt, rt.alloc(), file, reads) {
+            let answer = readable(rt.alloc(), &mut vault, FileId(0));
+            match answer {
+                Ok(_) => {
+                    assert!(&rt; vault.faults == 0);
+                    readable_after = Some(reads);
+                    break;
+                }
+                Err(e) => assert!(&rt; e == DbError::VaultFault && vault.faults == 1),
+            }
+        }
+    }
+    assert!(&rt; readable_after.is_some());
     Ok(())
 }

@@ -1,4 +1,4 @@
-use Rattle.gd_verify.proofs.Walk.{bucket_place}
+use Rattle.gd_verify.proofs.Walks.{bucket_place}
 use Rattle.gd_verify.proofs.records.bucket_of.Goals as goal
 
 pub block_from-requires-clause-entry : goal.block_from-requires-clause-entry

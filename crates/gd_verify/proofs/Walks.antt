@@ -9,7 +9,7 @@ use Rattle.gd_base.specs.declared.errors.DbError.TheVariants.{BadHashTable}
 use Rattle.gd_format.specs.First.{or_else, unless, first_below}
 use Rattle.gd_format.specs.HeaderFault.{natural, is_within, header_of}
 use Rattle.gd_format.specs.Bucket.{raw_slot_at}
-use Rattle.gd_format.specs.File.{file_fault, dir_fault, front_of, entry_at, entries_of, entries_fault, entry_fault, is_block_in, run_fault, is_other_entry, run_at, block_of, slots_fault, slot_fault, reach_fault, is_slot_right, is_record_in, is_count_right, is_first, is_full_at}
+use Rattle.gd_format.specs.File.{file_fault, dir_fault, front_of, entry_at, entries_of, entries_fault, entry_fault, is_block_in, run_fault, is_other_entry, run_at, block_of, slots_fault, slot_fault, reach_fault, are_fields_right, is_slot_right, is_record_in, is_count_right, is_first, is_full_at}
 use Rattle.gd_format.proofs.Firsts.{or_else-none, unless-none, and-true, not_or-true, first_below-none, all_below_fails}
 
 -- what no refusal at an entry says
@@ -122,25 +122,36 @@ module _ (file : List ℕ) (h : Header) where
       let in_file = place_in none i lt in
       place_of (entry_at file h i) h.block (length file) at in_file.0 in_file.1 e
 
-  record_judged : (block : List ℕ) (at top s : ℕ) → slot_fault file block at top s ≡ None → is_full_at block s ≡ true → is_record_in (length file) (raw_slot_at block s) ≡ true
-  unfolding slot_fault is_slot_right
-  record_judged block at top s none full = (and-true _ _ (and-true _ _ (and-true _ _ (not_or-true _ _ (unless-none _ _ none) full)).0).0).1
+  slot_judged : (block : List ℕ) (at top s : ℕ) → slot_fault file block at top s ≡ None → is_full_at block s ≡ true → is_slot_right file block top s ≡ true
+  unfolding slot_fault
+  slot_judged block at top s none full = not_or-true _ _ (unless-none _ _ none) full
 
-  slots_judged : (block : List ℕ) (at top : ℕ) → slots_fault file h.elems block at top ≡ None → (s : ℕ) → s < h.elems → is_full_at block s ≡ true → is_record_in (length file) (raw_slot_at block s) ≡ true
+  slots_judged : (block : List ℕ) (at top : ℕ) → slots_fault file h.elems block at top ≡ None → (s : ℕ) → s < h.elems → is_full_at block s ≡ true → is_slot_right file block top s ≡ true
   unfolding slots_fault
   slots_judged block at top none s lt full =
       let slots = first_below h.elems (slot_fault file block at top) in
       let reaches = first_below h.elems (reach_fault block h.elems at) in
       let a = or_else-none (unless (is_count_right block h.elems) (BadHashTable at)) (or_else slots (or_else reaches None)) none in
       let b = or_else-none slots (or_else reaches None) a.1 in
-      record_judged block at top s (first_below-none (slot_fault file block at top) h.elems b.0 s lt) full
+      slot_judged block at top s (first_below-none (slot_fault file block at top) h.elems b.0 s lt) full
+
+  -- a full slot is right under the top bits of its run
+  slot_right : dir_fault file h ≡ None → (i : ℕ) → i < entries_of h → (s : ℕ) → s < h.elems → is_full_at (block_of file h i) s ≡ true → (top : ℕ) × (is_slot_right file (block_of file h i) top s ≡ true)
+  slot_right none i lt s slot full =
+      let c = covered none i lt in
+      let full_there : is_full_at (block_of file h c.s) s ≡ true = rw (block_is i c) at full in
+      (c.s / run_at file h c.s, rw (block_is i c) (slots_judged (block_of file h c.s) (natural (entry_at file h c.s)) (c.s / run_at file h c.s) c.judged.slots s slot full_there))
+
+  right_parts : (block : List ℕ) (top s : ℕ) → is_slot_right file block top s ≡ true → (are_fields_right (raw_slot_at block s) ≡ true) × (is_record_in (length file) (raw_slot_at block s) ≡ true)
+  unfolding is_slot_right
+  right_parts block top s right = let a = and-true _ _ (and-true _ _ (and-true _ _ right).0).0 in (a.0, a.1)
 
   -- the record of a full slot lies in the file
   pub record_in : dir_fault file h ≡ None → (i : ℕ) → i < entries_of h → (s : ℕ) → s < h.elems → is_full_at (block_of file h i) s ≡ true → is_record_in (length file) (raw_slot_at (block_of file h i) s) ≡ true
-  record_in none i lt s slot full =
-      let c = covered none i lt in
-      let full_there : is_full_at (block_of file h c.s) s ≡ true = rw (block_is i c) at full in
-      rw (block_is i c) (slots_judged (block_of file h c.s) (natural (entry_at file h c.s)) (c.s / run_at file h c.s) c.judged.slots s slot full_there)
+  record_in none i lt s slot full = let r = slot_right none i lt s slot full in (right_parts (block_of file h i) r.0 s r.1).1
+
+  pub fields_in : dir_fault file h ≡ None → (i : ℕ) → i < entries_of h → (s : ℕ) → s < h.elems → is_full_at (block_of file h i) s ≡ true → are_fields_right (raw_slot_at (block_of file h i) s) ≡ true
+  fields_in none i lt s slot full = let r = slot_right none i lt s slot full in (right_parts (block_of file h i) r.0 s r.1).0
 
 pub dir_none : (file : List ℕ) → file_fault file ≡ None → dir_fault file (header_of (front_of file)) ≡ None
 unfolding file_fault
