@@ -32,7 +32,7 @@ lines-last [] some fits = absurd (omega (arith, some))
 lines-last (x ∷ xs) some fits = ap (λ zs. x ∷ zs) (broken-last 75 xs (omega (arith, fits)))
 
 -- how long a text is
-length-text : (bytes : List ℕ) → length (base64_text bytes) ≡ (4 * length bytes + 2) / 3 + (3 - length bytes % 3) % 3
+pub length-text : (bytes : List ℕ) → length (base64_text bytes) ≡ (4 * length bytes + 2) / 3 + (3 - length bytes % 3) % 3
 length-text bytes = rw (length-append, length-encode_symbols, length-replicate) refl
 
 -- the lines of bytes are that of the first 57 of them or of all, and those of the rest

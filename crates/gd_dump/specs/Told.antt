@@ -1,0 +1,96 @@
+-- What a dump tells: its items, each with the number of bytes up to its end, and the refusal that ends it where there is one.
+use Rattle.std.specs.Prelude.{◌≡◌, ℕ, ◌+◌, ◌≤◌, List, [], ◌∷◌, ◌++◌, drop, length, Option, Some, None, Result, Ok, Err}
+use Rattle.gd_dump.specs.declared.items.DumpKind.{DumpKind}
+use Rattle.gd_dump.specs.declared.items.DumpError.{DumpError}
+use Rattle.gd_dump.specs.declared.items.DumpError.TheVariants.{Bad, OutOfMemory}
+use Rattle.gd_base.specs.declared.errors.OutOfMemory.{OutOfMemory as NoMemory}
+use Rattle.gd_dump.specs.declared.items.Item.{Item}
+use Rattle.gd_dump.specs.declared.items.Item.TheVariants.{Pair}
+use Rattle.gd_dump.specs.declared.items.Fed.{Fed}
+use Rattle.gd_dump.specs.declared.items.Refusal.{Refusal}
+use Rattle.gd_dump.specs.declared.items.Stopped.{Stopped}
+use Rattle.gd_dump.specs.declared.items.Stopped.TheVariants.{Refused, Starved}
+
+pub record Told : Type 0 where
+  pub items : List (Item × ℕ)
+  pub refusal : Option (DumpKind × ℕ)
+
+-- nothing more
+abbrev pub nothing : Told
+nothing = record { items = []; refusal = None }
+
+abbrev pub refused : DumpKind → ℕ → Told
+refused kind place = record { items = []; refusal = Some (kind, place) }
+
+-- an item that ends there, and what follows it
+abbrev pub given : Item → ℕ → Told → Told
+given item end told = record { items = (item, end) ∷ told.items; refusal = told.refusal }
+
+-- the same, where there is an item
+abbrev pub given_if : Option Item → ℕ → Told → Told
+given_if None end told = told
+given_if (Some item) end told = given item end told
+
+abbrev pub pairs_of : List (Item × ℕ) → List (List ℕ × List ℕ)
+pairs_of [] = []
+pairs_of ((Pair key value, end) ∷ items) = (key, value) ∷ pairs_of items
+pairs_of ((item, end) ∷ items) = pairs_of items
+
+-- ---- one step of a reader, of which old and new say what it still gives, before and after, for each rest of the input
+
+abbrev pub Steps : (List ℕ → Told) → (List ℕ → Told) → ℕ → ℕ → List ℕ → Result Fed DumpError → Type 0
+Steps old new before after piece (Ok fed) = (fed.taken ≤ length piece) × (after ≡ before + fed.taken)
+    × ((rest : List ℕ) → old (piece ++ rest) ≡ given_if fed.item after (new (drop fed.taken piece ++ rest)))
+Steps old new before after piece (Err (Bad kind place)) = (rest : List ℕ) → old (piece ++ rest) ≡ refused kind place
+Steps old new before after piece (Err OutOfMemory) = (after ≡ before) × ((rest : List ℕ) → new rest ≡ old rest)
+
+-- without an item nothing is taken only of an empty piece
+abbrev pub GoesOn : List ℕ → Result Fed DumpError → Type 0
+GoesOn piece (Ok fed) = fed.item ≡ None → fed.taken ≡ 0 → length piece ≡ 0
+GoesOn piece (Err e) = Unit {0}
+
+-- steps up to the first item, or to the end of the piece
+abbrev pub Runs : (List ℕ → Told) → (List ℕ → Told) → ℕ → ℕ → List ℕ → Result Fed Stopped → Type 0
+Runs old new before after piece (Ok fed) = Steps old new before after piece (Ok fed) × (fed.item ≡ None → fed.taken ≡ length piece)
+Runs old new before after piece (Err (Refused kind place)) = (rest : List ℕ) → old (piece ++ rest) ≡ refused kind place
+Runs old new before after piece (Err (Starved n)) = (n ≤ length piece) × (after ≡ before + n) × ((rest : List ℕ) → old (piece ++ rest) ≡ new (drop n piece ++ rest))
+
+-- nothing more comes: the next item, if there is one
+abbrev pub Ends : (List ℕ → Told) → (List ℕ → Told) → ℕ → ℕ → Result (Option Item) DumpError → Type 0
+Ends old new before after (Ok (Some item)) = (after ≡ before) × (old [] ≡ given item after (new []))
+Ends old new before after (Ok None) = (after ≡ before) × (old [] ≡ nothing) × (new [] ≡ nothing)
+Ends old new before after (Err (Bad kind place)) = (after ≡ before) × (old [] ≡ refused kind place)
+Ends old new before after (Err OutOfMemory) = (after ≡ before) × ((rest : List ℕ) → new rest ≡ old rest)
+
+abbrev pub RefusedWith : Told → DumpError → Type 0
+RefusedWith told (Bad kind place) = told ≡ refused kind place
+RefusedWith told OutOfMemory = ⊥
+
+-- what is held has an item, whatever comes, or memory was wanted
+abbrev pub GivesPair : (List ℕ → Told) → (List ℕ → Told) → ℕ → Result Item NoMemory → Type 0
+GivesPair old new end (Ok item) = (rest : List ℕ) → old rest ≡ given item end (new rest)
+GivesPair old new end (Err e) = (rest : List ℕ) → new rest ≡ old rest
+
+-- ---- the calls of a reader
+
+-- Of the piece some bytes were taken: all, or those up to the end of the item that is given. Or the dump is refused, and so is each later call.
+-- Where memory was wanted the same bytes are to come again.
+abbrev pub Feeds : (List ℕ → Told) → (List ℕ → Told) → ℕ → ℕ → List ℕ → Result Fed DumpError → Type 0
+Feeds old new before after piece (Ok fed) = (fed.taken ≤ length piece) × (after ≡ before + fed.taken)
+    × ((rest : List ℕ) → old (piece ++ rest) ≡ given_if fed.item after (new (drop fed.taken piece ++ rest)))
+Feeds old new before after piece (Err (Bad kind place)) = (after ≡ 0) × ((rest : List ℕ) → (old (piece ++ rest) ≡ refused kind place) × (new rest ≡ refused kind place))
+Feeds old new before after piece (Err OutOfMemory) = (after ≡ before) × ((rest : List ℕ) → new (piece ++ rest) ≡ old (piece ++ rest))
+
+-- nothing more comes: the next item, if there is one
+abbrev pub Finishes : (List ℕ → Told) → (List ℕ → Told) → ℕ → ℕ → Result (Option Item) DumpError → Type 0
+Finishes old new before after (Ok (Some item)) = (after ≡ before) × (old [] ≡ given item after (new []))
+Finishes old new before after (Ok None) = (after ≡ before) × (old [] ≡ nothing) × (new [] ≡ nothing)
+Finishes old new before after (Err (Bad kind place)) = (after ≡ 0) × (old [] ≡ refused kind place) × ((rest : List ℕ) → new rest ≡ refused kind place)
+Finishes old new before after (Err OutOfMemory) = (after ≡ before) × (new [] ≡ old [])
+
+-- the refusal that a reader has answered, before and after a call: it is answered again
+abbrev pub Repeats : {T : Type 0} → Option Refusal → Option Refusal → Result T DumpError → Type 0
+Repeats (Some stop) new r = (r ≡ Err (Bad stop.kind stop.place)) × (new ≡ Some stop)
+Repeats None new (Ok x) = new ≡ None
+Repeats None new (Err (Bad kind place)) = new ≡ Some (record { kind = kind; place = place })
+Repeats None new (Err OutOfMemory) = new ≡ None

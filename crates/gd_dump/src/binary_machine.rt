@@ -1,0 +1,365 @@
+//! The steps of the reader of binary dumps.
+
+ghost use Rattle.std.specs.Prelude.{[], ◌≡◌, ℕ, List, slice_index, ◌+◌, ◌-◌, ◌^◌, ◌≤◌, ◌<◌, length, take, drop, codes, vec_len};
+ghost use Rattle.gd_dump.specs.BinaryItems.{binary_items, is_head_line, is_no_head, number_at};
+ghost use Rattle.gd_dump.specs.BinaryDemand.{DemandIs, needed, room};
+ghost use Rattle.gd_dump.specs.Lines.{NoFeed, contains, is_overlong};
+
+use crate::items::{DumpError, DumpHead, DumpKind, Fed, Item, Stopped};
+use gd_base::{Datum, OutOfMemory};
+use memchr::memchr;
+use std::alloc::Global;
+
+const HIGHEST: usize = 1 << 30;
+
+/// What of a dump is read.
+#[derive(Clone, Copy, Debug, PartialEq, Eq)]
+pub enum Phase {
+    /// The head, with so many of its lines to come.
+    Head(u8),
+    Pairs,
+    Ended,
+}
+
+/// What the bytes of a pair that have come say of its size.
+#[derive(Clone, Copy, Debug, PartialEq, Eq)]
+pub enum Demand {
+    /// Nothing before there are so many bytes.
+    More(usize),
+    /// They are whole, with a key and a value of these lengths.
+    Whole(usize, usize),
+    /// The length at this place is too large.
+    TooLarge(usize),
+}
+
+/// The bytes of a line of the head, or of a pair, that have come, with their place in the input.
+#[derive(Debug, Drop)]
+pub struct BinaryMachine {
+    alloc: Global,
+    held: Vec<u8>,
+    place: u64,
+    phase: Phase,
+    ghost in_range: { place + vec_len held ≤ 2 ^ 63 - 1 },
+    ghost no_more: { vec_len held ≤ room phase held.items },
+}
+
+pub fn overlong(line: &[u8]) -> bool
+    ensures { result ≡ is_overlong line.now }
+{
+    let counted = if line.ends_with(b"\r") {
+        line.len() - 1
+    } else {
+        line.len()
+    };
+    counted > 65_536
+}
+
+fn contains_part(line: &[u8], part: &[u8]) -> bool
+    ensures { result ≡ contains part.now line.now }
+{
+    for at in 0..line.len() {
+        if line[at..].starts_with(part) {
+            return true;
+        }
+    }
+    part.is_empty()
+}
+
+fn head_line(after: u8, line: &[u8]) -> bool
+    ensures { result ≡ is_head_line after line.now }
+{
+    line.starts_with(b"!")
+        && !overlong(line)
+        && (after != 2 || contains_part(line, b"GDBM FLAT FILE DUMP"))
+}
+
+fn no_head(line: &[u8]) -> bool
+    ensures { result ≡ is_no_head line.now }
+{
+    !line.is_empty() && !line.starts_with(b"!") || overlong(line)
+}
+
+fn length_at(bytes: &[u8], at: usize) -> usize
+    requires { at + 4 ≤ length bytes.now }
+    ensures value { result ≡ number_at (drop at bytes.now) }
+    ensures bound { result < 2 ^ 32 }
+{
+    let bytes = [bytes[at], bytes[at + 1], bytes[at + 2], bytes[at + 3]];
+    u32::from_be_bytes(bytes) as usize
+}
+
+fn demand_of(held: &[u8]) -> Demand
+    ensures { DemandIs held.now result }
+{
+    if held.len() < 4 {
+        return Demand::More(4);
+    }
+    let key = length_at(held, 0);
+    if key > HIGHEST {
+        return Demand::TooLarge(0);
+    }
+    if held.len() < 8 + key {
+        return Demand::More(8 + key);
+    }
+    let value = length_at(held, 4 + key);
+    if key + value > HIGHEST {
+        Demand::TooLarge(4 + key)
+    } else if held.len() < 8 + key + value {
+        Demand::More(8 + key + value)
+    } else {
+        Demand::Whole(key, value)
+    }
+}
+
+impl BinaryMachine {
+    ghost use Rattle.gd_dump.specs.BinaryLeft.{binary_left, binary_taken};
+    ghost use Rattle.gd_dump.specs.Told.{Ends, GivesPair, GoesOn, RefusedWith, Runs, Steps, given};
+
+    pub fn new(alloc: Global) -> BinaryMachine
+        ensures left { (bytes : List ℕ) → binary_left result bytes ≡ binary_items bytes }
+        ensures taken { binary_taken result ≡ 0 }
+    {
+        BinaryMachine {
+            alloc,
+            held: Vec::new(alloc),
+            place: 0,
+            phase: Phase::Head(4),
+        }
+    }
+
+    // A piece without a line feed, in a line that `after` more follow.
+    fn part_of_line(&mut self, after: u8, piece: &[u8]) -> Result<Fed, DumpError>
+        requires phase { self.old.phase ≡ Phase.Head (after + 1) }
+        requires fits { binary_taken self.old + length piece.now ≤ 2 ^ 63 - 1 }
+        requires within { NoFeed piece.now (length piece.now) }
+        ensures steps { Steps (binary_left self.old) (binary_left self.new) (binary_taken self.old) (binary_taken self.new) piece.now result }
+        ensures goes_on { GoesOn piece.now result }
+    {
+        if self.held.extend_from_slice(piece).is_err() {
+            return Err(DumpError::OutOfMemory);
+        }
+        if overlong(&self.held) {
+            return Err(DumpError::Bad {
+                kind: DumpKind::Version,
+                place: self.place,
+            });
+        }
+        Ok(Fed {
+            taken: piece.len(),
+            item: None,
+        })
+    }
+
+    // The end of a line that `after` more follow, which has a line feed behind it.
+    fn end_of_line(&mut self, after: u8, piece: &[u8], end: usize) -> Result<Fed, DumpError>
+        requires phase { self.old.phase ≡ Phase.Head (after + 1) }
+        requires fits { binary_taken self.old + length piece.now ≤ 2 ^ 63 - 1 }
+        requires inside { end < length piece.now }
+        requires within { NoFeed piece.now end }
+        requires feed { slice_index piece.now end ≡ 10 }
+        ensures steps { Steps (binary_left self.old) (binary_left self.new) (binary_taken self.old) (binary_taken self.new) piece.now result }
+        ensures goes_on { GoesOn piece.now result }
+    {
+        if self.held.extend_from_slice(&piece[..end]).is_err() {
+            return Err(DumpError::OutOfMemory);
+        }
+        if !head_line(after, &self.held) {
+            return Err(DumpError::Bad {
+                kind: DumpKind::Version,
+                place: self.place,
+            });
+        }
+        self.place += self.held.len() as u64 + 1;
+        self.held.clear();
+        self.phase = Phase::Head(after);
+        Ok(Fed {
+            taken: end + 1,
+            item: None,
+        })
+    }
+
+    // A piece of a line of the head, which `after` more follow.
+    fn head_step(&mut self, after: u8, piece: &[u8]) -> Result<Fed, DumpError>
+        requires phase { self.old.phase ≡ Phase.Head (after + 1) }
+        requires fits { binary_taken self.old + length piece.now ≤ 2 ^ 63 - 1 }
+        ensures steps { Steps (binary_left self.old) (binary_left self.new) (binary_taken self.old) (binary_taken self.new) piece.now result }
+        ensures goes_on { GoesOn piece.now result }
+    {
+        match memchr(b'\n', piece) {
+            Some(end) => self.end_of_line(after, piece, end),
+            None => self.part_of_line(after, piece),
+        }
+    }
+
+    // More bytes of a pair, at most up to `wanted` in all.
+    fn more_of_pair(&mut self, wanted: usize, piece: &[u8]) -> Result<Fed, DumpError>
+        requires phase { self.old.phase ≡ Phase.Pairs }
+        requires fits { binary_taken self.old + length piece.now ≤ 2 ^ 63 - 1 }
+        requires more { vec_len self.old.held < wanted }
+        requires wanted { wanted ≡ needed self.old.held.items }
+        ensures steps { Steps (binary_left self.old) (binary_left self.new) (binary_taken self.old) (binary_taken self.new) piece.now result }
+        ensures goes_on { GoesOn piece.now result }
+    {
+        let taken = piece.len().min(wanted - self.held.len());
+        if self.held.extend_from_slice(&piece[..taken]).is_err() {
+            return Err(DumpError::OutOfMemory);
+        }
+        Ok(Fed { taken, item: None })
+    }
+
+    // The pair that the held bytes begin with.
+    fn whole_pair(&mut self, key: usize, value: usize) -> Result<Item, OutOfMemory>
+        requires phase { self.old.phase ≡ Phase.Pairs }
+        requires whole { DemandIs self.old.held.items (Demand.Whole key value) }
+        ensures taken { binary_taken self.new ≡ binary_taken self.old }
+        ensures pair { GivesPair (binary_left self.old) (binary_left self.new) (self.old.place + (8 + key + value)) result }
+    {
+        let first = Datum::from_slice(self.alloc, &self.held[4..4 + key])?;
+        let second = Datum::from_slice(self.alloc, &self.held[8 + key..8 + key + value])?;
+        self.held.drain(..8 + key + value);
+        self.place += 8 + key as u64 + value as u64;
+        Ok(Item::Pair(first, second))
+    }
+
+    fn pair_step(&mut self, piece: &[u8]) -> Result<Fed, DumpError>
+        requires phase { self.old.phase ≡ Phase.Pairs }
+        requires fits { binary_taken self.old + length piece.now ≤ 2 ^ 63 - 1 }
+        ensures steps { Steps (binary_left self.old) (binary_left self.new) (binary_taken self.old) (binary_taken self.new) piece.now result }
+        ensures goes_on { GoesOn piece.now result }
+    {
+        match demand_of(&self.held) {
+            Demand::More(wanted) => self.more_of_pair(wanted, piece),
+            Demand::Whole(key, value) => match self.whole_pair(key, value) {
+                Ok(pair) => Ok(Fed {
+                    taken: 0,
+                    item: Some(pair),
+                }),
+                Err(OutOfMemory) => Err(DumpError::OutOfMemory),
+            },
+            Demand::TooLarge(at) => Err(DumpError::Bad {
+                kind: DumpKind::TooLarge,
+                place: self.place + at as u64,
+            }),
+        }
+    }
+
+    fn start_pairs(&mut self)
+        requires { self.old.phase ≡ Phase.Head 0 }
+        ensures taken { binary_taken self.new ≡ binary_taken self.old }
+        ensures head { (rest : List ℕ) → binary_left self.old rest ≡ given (Item.Head (record { format = None; file = None })) self.old.place (binary_left self.new rest) }
+    {
+        self.phase = Phase::Pairs;
+    }
+
+    /// Takes some of a piece, or what is held gives an item or is refused.
+    pub fn step(&mut self, piece: &[u8]) -> Result<Fed, DumpError>
+        requires { binary_taken self.old + length piece.now ≤ 2 ^ 63 - 1 }
+        ensures steps { Steps (binary_left self.old) (binary_left self.new) (binary_taken self.old) (binary_taken self.new) piece.now result }
+        ensures goes_on { GoesOn piece.now result }
+    {
+        match self.phase {
+            Phase::Head(0) => {
+                self.start_pairs();
+                Ok(Fed {
+                    taken: 0,
+                    item: Some(Item::Head(DumpHead {
+                        format: None,
+                        file: None,
+                    })),
+                })
+            }
+            Phase::Head(lines) => self.head_step(lines - 1, piece),
+            Phase::Pairs => self.pair_step(piece),
+            Phase::Ended => {
+                self.place += piece.len() as u64;
+                Ok(Fed {
+                    taken: piece.len(),
+                    item: None,
+                })
+            }
+        }
+    }
+
+    // The input ends inside the head.
+    fn end_of_head(&self, after: u8) -> DumpError
+        requires { self.now.phase ≡ Phase.Head (after + 1) }
+        ensures { RefusedWith (binary_left self.now []) result }
+    {
+        if no_head(&self.held) {
+            return DumpError::Bad {
+                kind: DumpKind::Version,
+                place: self.place,
+            };
+        }
+        DumpError::Bad {
+            kind: DumpKind::Truncated,
+            place: self.place + self.held.len() as u64,
+        }
+    }
+
+    // The input ends before a pair, or in it.
+    fn end_of_pairs(&mut self) -> Result<Option<Item>, DumpError>
+        requires { self.old.phase ≡ Phase.Pairs }
+        ensures { Ends (binary_left self.old) (binary_left self.new) (binary_taken self.old) (binary_taken self.new) result }
+    {
+        if self.held.is_empty() {
+            self.phase = Phase::Ended;
+            return Ok(Some(Item::End));
+        }
+        match demand_of(&self.held) {
+            Demand::More(_wanted) => Err(DumpError::Bad {
+                kind: DumpKind::Truncated,
+                place: self.place + self.held.len() as u64,
+            }),
+            Demand::Whole(key, value) => match self.whole_pair(key, value) {
+                Ok(pair) => Ok(Some(pair)),
+                Err(OutOfMemory) => Err(DumpError::OutOfMemory),
+            },
+            Demand::TooLarge(at) => Err(DumpError::Bad {
+                kind: DumpKind::TooLarge,
+                place: self.place + at as u64,
+            }),
+        }
+    }
+
+    /// The input has ended.
+    pub fn end(&mut self) -> Result<Option<Item>, DumpError>
+        ensures { Ends (binary_left self.old) (binary_left self.new) (binary_taken self.old) (binary_taken self.new) result }
+    {
+        match self.phase {
+            Phase::Head(0) => {
+                self.start_pairs();
+                Ok(Some(Item::Head(DumpHead {
+                    format: None,
+                    file: None,
+                })))
+            }
+            Phase::Head(lines) => Err(self.end_of_head(lines - 1)),
+            Phase::Pairs => self.end_of_pairs(),
+            Phase::Ended => Ok(None),
+        }
+    }
+
+    /// Steps up to the first item, or to the end of the piece.
+    pub fn run(&mut self, piece: &[u8]) -> Result<Fed, Stopped>
+        requires { binary_taken self.old + length piece.now ≤ 2 ^ 63 - 1 }
+        ensures { Runs (binary_left self.old) (binary_left self.new) (binary_taken self.old) (binary_taken self.new) piece.now result }
+    {
+        let mut at = 0;
+        loop {
+            match self.step(&piece[at..]) {
+                Ok(fed) => {
+                    at += fed.taken;
+                    if fed.item.is_some() || fed.taken == 0 {
+                        return Ok(Fed {
+                            taken: at,
+                            item: fed.item,
+                        });
+                    }
+                }
+                Err(DumpError::OutOfMemory) => return Err(Stopped::Starved(at)),
+                Err(DumpError::Bad { kind, place }) => return Err(Stopped::Refused(kind, place)),
+            }
+        }
+    }
+}
