@@ -1,57 +1,52 @@
 -- How a run of the dumper ends: what it prints, what it says, and why.
-use Rattle.std.specs.Prelude.{◌≡◌, ◌⊎◌, ◌&&◌, ℕ, Bool, true, false, List, [], Option, Some, None, is_none, codes, if◌then◌else◌, option_and_then, option_map}
-use Rattle.gd_base.specs.declared.errors.Format.{Format}
-use Rattle.gd_base.specs.declared.errors.Format.TheVariants.{Standard, Numsync}
+use Rattle.std.specs.Prelude.{◌≡◌, ◌⊎◌, ◌∷◌, ◌++◌, ℕ, List, [], Option, Some, None, is_none, codes, if◌then◌else◌, option_and_then, option_map}
+use Rattle.gd_base.specs.declared.errors.DbError.{DbError}
+use Rattle.gd_base.specs.declared.errors.DbError.TheVariants.{Absent, VaultFault}
 use Rattle.gd_base.specs.Causes.{Rose}
-use Rattle.gd_base.specs.Content.{Content}
+use Rattle.gd_base.specs.Errors.{error_text}
 use Rattle.gd_base.specs.Streams.{WritesFront, and_then}
-use Rattle.gd_base.specs.Views.{View, IsAt}
+use Rattle.gd_vault.specs.Content.{Content}
+use Rattle.gd_vault.specs.Views.{View, IsAt}
 use Rattle.gd_format.specs.HeaderFault.{header_of}
 use Rattle.gd_format.specs.File.{file_fault, front_of, records}
 use Rattle.gd_dump.specs.Ascii.{ascii_text}
 use Rattle.gd_top.specs.Words.{Text}
 use Rattle.gd_top.specs.declared.ending.Ending.{Ending}
-use Rattle.gd_top.specs.declared.ending.Ending.TheVariants.{Dumped, Misused, Absent, Unreadable, VaultFailed, OutputFailed, Starved}
+use Rattle.gd_top.specs.declared.ending.Ending.TheVariants.{Dumped, Misused, Refused, OutputFailed, Starved}
 
 -- ---- what is owed
-
-abbrev pub is_standard : Format → Bool
-is_standard Standard = true
-is_standard Numsync = false
-
--- a readable file of the standard format
-abbrev pub is_dumpable : List ℕ → Bool
-is_dumpable file = is_none (file_fault file) && is_standard (header_of (front_of file)).format
-
-abbrev pub dump_of : Text → List ℕ → Text
-dump_of name file = ascii_text (records file) name Standard
 
 -- the bytes of the file for which a name stands
 abbrev pub bytes_of : Content → Text → Option (List ℕ)
 bytes_of c name = option_and_then (λ id. option_map (λ x. x.bytes) (c.files id)) (c.names name)
 
+-- why a file is not dumped: it is absent, or else its first refusal
+abbrev pub fault_of : Option (List ℕ) → Option DbError
+fault_of None = Some Absent
+fault_of (Some file) = file_fault file
+
+-- the dump of a readable file, in the file's own format
+abbrev pub dump_of : Text → List ℕ → Text
+dump_of name file = ascii_text (records file) name (header_of (front_of file)).format
+
 -- the text of the dump, or nothing where there is none
 abbrev pub text_of : Text → Option (List ℕ) → Text
 text_of name None = []
-text_of name (Some file) = if is_dumpable file then dump_of name file else []
+text_of name (Some file) = if is_none (file_fault file) then dump_of name file else []
 
 -- ---- what is said on standard error, and the status
 
 abbrev pub line_of : Ending → Text
 line_of Dumped = []
 line_of Misused = codes "gdbm_dump: usage error\n"
-line_of Absent = codes "gdbm_dump: error 1 Absent\n"
-line_of Unreadable = codes "gdbm_dump: not a readable file\n"
-line_of VaultFailed = codes "gdbm_dump: error 27 VaultFault\n"
+line_of (Refused e) = codes "gdbm_dump: " ++ (error_text e ++ 10 ∷ [])
 line_of OutputFailed = codes "gdbm_dump: output fault\n"
 line_of Starved = codes "gdbm_dump: out of memory\n"
 
 abbrev pub status_of : Ending → ℕ
 status_of Dumped = 0
 status_of Misused = 3
-status_of Absent = 1
-status_of Unreadable = 1
-status_of VaultFailed = 1
+status_of (Refused e) = 1
 status_of OutputFailed = 1
 status_of Starved = 4
 
@@ -75,12 +70,14 @@ Prints e name v out0 out1 = out1 ≡ out0
 
 -- ---- why: exactly where the content is told, a fault only where its count rose, and want of memory always
 
+-- the refusal of the file, or a fault of the vault
+abbrev pub RefusedFor : DbError → Text → View → (vault_failed : Type 0) → Type 0
+RefusedFor e name v vault_failed = IsAt v (λ c. fault_of (bytes_of c name) ≡ Some e) ⊎ ((e ≡ VaultFault) × vault_failed)
+
 abbrev pub ComesFor : Ending → Text → View → (vault_failed out_failed : Type 0) → Type 0
-ComesFor Dumped name v vault_failed out_failed = IsAt v (λ c. (file : List ℕ) × (bytes_of c name ≡ Some file) × (is_dumpable file ≡ true))
+ComesFor Dumped name v vault_failed out_failed = IsAt v (λ c. fault_of (bytes_of c name) ≡ None)
 ComesFor Misused name v vault_failed out_failed = ⊥
-ComesFor Absent name v vault_failed out_failed = IsAt v (λ c. c.names name ≡ None)
-ComesFor Unreadable name v vault_failed out_failed = IsAt v (λ c. (file : List ℕ) × (bytes_of c name ≡ Some file) × (is_dumpable file ≡ false))
-ComesFor VaultFailed name v vault_failed out_failed = vault_failed
+ComesFor (Refused e) name v vault_failed out_failed = RefusedFor e name v vault_failed
 ComesFor OutputFailed name v vault_failed out_failed = out_failed
 ComesFor Starved name v vault_failed out_failed = Unit {0}
 
@@ -98,21 +95,20 @@ Ends e (Some name) v vault_failed out_failed out0 out1 = EndsFor e name v vault_
 
 -- why a file that is there was not read
 abbrev pub FailsFor : Ending → (vault_failed : Type 0) → Type 0
-FailsFor VaultFailed vault_failed = vault_failed
+FailsFor (Refused e) vault_failed = (e ≡ VaultFault) × vault_failed
 FailsFor Starved vault_failed = Unit {0}
 FailsFor e vault_failed = ⊥
 
 -- why the file with a name was not read
 abbrev pub RefusesFile : Ending → Text → View → (vault_failed : Type 0) → Type 0
-RefusesFile Absent name v vault_failed = IsAt v (λ c. c.names name ≡ None)
-RefusesFile VaultFailed name v vault_failed = vault_failed
+RefusesFile (Refused e) name v vault_failed = RefusedFor e name v vault_failed
 RefusesFile Starved name v vault_failed = Unit {0}
 RefusesFile e name v vault_failed = ⊥
 
 -- the dump of a file that was read whole
 abbrev pub EndsOver : Ending → Text → List ℕ → (out_failed : Type 0) → (out0 out1 : Option Text) → Type 0
-EndsOver Dumped name file out_failed out0 out1 = (is_dumpable file ≡ true) × (out1 ≡ and_then out0 (dump_of name file))
-EndsOver Unreadable name file out_failed out0 out1 = (is_dumpable file ≡ false) × (out1 ≡ out0)
-EndsOver OutputFailed name file out_failed out0 out1 = (is_dumpable file ≡ true) × out_failed × WritesFront out0 out1 (dump_of name file)
+EndsOver Dumped name file out_failed out0 out1 = (file_fault file ≡ None) × (out1 ≡ and_then out0 (dump_of name file))
+EndsOver (Refused e) name file out_failed out0 out1 = (file_fault file ≡ Some e) × (out1 ≡ out0)
+EndsOver OutputFailed name file out_failed out0 out1 = (file_fault file ≡ None) × out_failed × WritesFront out0 out1 (dump_of name file)
 EndsOver Starved name file out_failed out0 out1 = out1 ≡ out0
 EndsOver e name file out_failed out0 out1 = ⊥

@@ -1,20 +1,20 @@
 //! Dumps the records of a database file.
 
 ghost use Rattle.std.specs.Prelude.{◌≡◌, ◌≤◌, ◌<◌, ◌^◌, Ok, Err, OnErr, IfOk, IfErr, None, Some, length, option_map};
-ghost use Rattle.gd_base.specs.declared.errors.Format.TheVariants.{Standard};
 ghost use Rattle.gd_base.specs.Causes.{HasCause, Rose};
 ghost use Rattle.gd_base.specs.Pages.{Pends};
 ghost use Rattle.gd_base.specs.Streams.{Puts};
-ghost use Rattle.gd_base.specs.Views.{HasFile, IsAt, OnlyAsks};
+ghost use Rattle.gd_vault.specs.Views.{HasFile, IsAt, OnlyAsks};
 ghost use Rattle.gd_format.specs.HeaderFault.{header_of};
 ghost use Rattle.gd_format.specs.File.{file_fault, front_of, records};
-ghost use Rattle.gd_dump.specs.Ascii.{ascii_text, pairs_text};
-ghost use Rattle.gd_top.specs.Dump.{EndsFor, EndsOver, FailsFor, RefusesFile, bytes_of};
+ghost use Rattle.gd_dump.specs.Ascii.{pairs_text};
+ghost use Rattle.gd_top.specs.Dump.{EndsFor, EndsOver, FailsFor, RefusesFile, bytes_of, dump_of};
 
 use crate::ending::Ending;
-use gd_base::{Failed, FileId, Format, Name, Page, Sink, Vault, flush};
+use gd_base::{DbError, Failed, Name, Page, Sink, flush};
 use gd_dump::AsciiWriter;
 use gd_format::Header;
+use gd_vault::{FileId, Vault};
 use gd_verify::{Records, check};
 use std::alloc::Global;
 
@@ -26,7 +26,7 @@ fn read_file<V: Vault>(alloc: Global, f: FileId, vault: &mut V) -> Result<Vec<u8
     ensures asks { OnlyAsks (V.view_of vault.old) (V.view_of vault.new) }
 {
     let Ok(len) = vault.len(f) else {
-        return Err(Ending::VaultFailed);
+        return Err(Ending::Refused(DbError::VaultFault));
     };
     let Ok(mut bytes) = vec![in alloc; 0u8; len as usize] else {
         return Err(Ending::Starved);
@@ -36,7 +36,7 @@ fn read_file<V: Vault>(alloc: Global, f: FileId, vault: &mut V) -> Result<Vec<u8
             bytes.truncate(count);
             Ok(bytes)
         }
-        Err(_) => Err(Ending::VaultFailed),
+        Err(_) => Err(Ending::Refused(DbError::VaultFault)),
     }
 }
 
@@ -48,8 +48,8 @@ fn read_named<V: Vault>(alloc: Global, name: &Name, vault: &mut V) -> Result<Vec
 {
     match vault.lookup(name) {
         Ok(Some(f)) => read_file(alloc, f, vault),
-        Ok(None) => Err(Ending::Absent),
-        Err(_) => Err(Ending::VaultFailed),
+        Ok(None) => Err(Ending::Refused(DbError::Absent)),
+        Err(_) => Err(Ending::Refused(DbError::VaultFault)),
     }
 }
 
@@ -86,11 +86,11 @@ fn put_dump<O: Sink>(
 ) -> Result<(), Failed>
     requires readable { file_fault file.now ≡ None }
     requires header { header.now ≡ header_of (front_of file.now) }
-    ensures bytes { Pends (O.written out.old) page.old.items (O.written out.new) page.new.items result (ascii_text (records file.now) name.now Standard) }
+    ensures bytes { Pends (O.written out.old) page.old.items (O.written out.new) page.new.items result (dump_of name.now file.now) }
     ensures cause { HasCause (O.fault_count out.old) (O.fault_count out.new) result }
     ensures kept { O.kept out.old out.new }
 {
-    AsciiWriter::put_head(page, Format::Standard, name, out)?;
+    AsciiWriter::put_head(page, header.format, name, out)?;
     let count = put_records(page, file, header, out)?;
     AsciiWriter::put_end(page, count, out)
 }
@@ -99,7 +99,7 @@ fn put_dump<O: Sink>(
 fn write_dump<O: Sink>(file: &[u8], header: &Header, name: &Name, out: &mut O) -> Result<(), Failed>
     requires readable { file_fault file.now ≡ None }
     requires header { header.now ≡ header_of (front_of file.now) }
-    ensures bytes { Puts (O.written out.old) (O.written out.new) result (ascii_text (records file.now) name.now Standard) }
+    ensures bytes { Puts (O.written out.old) (O.written out.new) result (dump_of name.now file.now) }
     ensures cause { HasCause (O.fault_count out.old) (O.fault_count out.new) result }
     ensures kept { O.kept out.old out.new }
 {
@@ -116,12 +116,9 @@ fn dump_bytes<O: Sink>(alloc: Global, file: &[u8], name: &Name, out: &mut O) -> 
 {
     let header = match check(alloc, file) {
         Ok(Ok(header)) => header,
-        Ok(Err(_)) => return Ending::Unreadable,
+        Ok(Err(error)) => return Ending::Refused(error),
         Err(_) => return Ending::Starved,
     };
-    if header.format != Format::Standard {
-        return Ending::Unreadable;
-    }
     match write_dump(file, &header, name, out) {
         Ok(()) => Ending::Dumped,
         Err(_) => Ending::OutputFailed,

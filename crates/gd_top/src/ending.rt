@@ -1,11 +1,13 @@
 //! How a run of the dumper ends, and what is said of it on standard error.
 
-ghost use Rattle.std.specs.Prelude.{◌≡◌, ◌≤◌};
-ghost use Rattle.gd_base.specs.Causes.{Rose};
-ghost use Rattle.gd_base.specs.Streams.{WritesFront, and_then};
+ghost use Rattle.std.specs.Prelude.{◌≡◌, ◌≤◌, ◌∷◌, ◌++◌, [], codes};
+ghost use Rattle.gd_base.specs.Causes.{HasCause};
+ghost use Rattle.gd_base.specs.Errors.{error_text};
+ghost use Rattle.gd_base.specs.Pages.{Pends};
+ghost use Rattle.gd_base.specs.Streams.{Puts};
 ghost use Rattle.gd_top.specs.Dump.{Says, line_of, status_of, status_untold};
 
-use gd_base::{Sink, write_all};
+use gd_base::{DbError, Failed, Page, Sink, flush, put, put_error};
 
 /// How a run of the dumper ended.
 #[derive(Clone, Copy, Debug, PartialEq, Eq)]
@@ -14,32 +16,14 @@ pub enum Ending {
     Dumped,
     /// The words are refused.
     Misused,
-    /// The name stands for no file.
-    Absent,
-    /// The file is no readable one of the standard format.
-    Unreadable,
-    VaultFailed,
+    /// The file is absent or not readable, or the vault failed.
+    Refused(DbError),
     OutputFailed,
     /// No memory was found.
     Starved,
 }
 
 impl Ending {
-    // The line on standard error; the empty text stands for none.
-    fn line(self) -> &'static str
-        ensures { result.now ≡ line_of self }
-    {
-        match self {
-            Ending::Dumped => "",
-            Ending::Misused => "gdbm_dump: usage error\n",
-            Ending::Absent => "gdbm_dump: error 1 Absent\n",
-            Ending::Unreadable => "gdbm_dump: not a readable file\n",
-            Ending::VaultFailed => "gdbm_dump: error 27 VaultFault\n",
-            Ending::OutputFailed => "gdbm_dump: output fault\n",
-            Ending::Starved => "gdbm_dump: out of memory\n",
-        }
-    }
-
     fn status(self) -> u8
         ensures { result ≡ status_of self }
     {
@@ -47,7 +31,7 @@ impl Ending {
             Ending::Dumped => 0,
             Ending::Misused => 3,
             Ending::Starved => 4,
-            Ending::Absent | Ending::Unreadable | Ending::VaultFailed | Ending::OutputFailed => 1,
+            Ending::Refused(_) | Ending::OutputFailed => 1,
         }
     }
 
@@ -62,13 +46,57 @@ impl Ending {
     }
 }
 
+// The error, and the end of the line.
+fn put_rest<E: Sink>(page: &mut Page, error: DbError, err: &mut E) -> Result<(), Failed>
+    ensures bytes { Pends (E.written err.old) page.old.items (E.written err.new) page.new.items result (error_text error ++ 10 ∷ []) }
+    ensures cause { HasCause (E.fault_count err.old) (E.fault_count err.new) result }
+    ensures kept { E.kept err.old err.new }
+{
+    put_error(page, error, err)?;
+    put(page, err, b"\n")
+}
+
+fn put_refusal<E: Sink>(page: &mut Page, error: DbError, err: &mut E) -> Result<(), Failed>
+    ensures bytes { Pends (E.written err.old) page.old.items (E.written err.new) page.new.items result (codes "gdbm_dump: " ++ (error_text error ++ 10 ∷ [])) }
+    ensures cause { HasCause (E.fault_count err.old) (E.fault_count err.new) result }
+    ensures kept { E.kept err.old err.new }
+{
+    put(page, err, b"gdbm_dump: ")?;
+    put_rest(page, error, err)
+}
+
+fn put_line<E: Sink>(page: &mut Page, ending: Ending, err: &mut E) -> Result<(), Failed>
+    ensures bytes { Pends (E.written err.old) page.old.items (E.written err.new) page.new.items result (line_of ending) }
+    ensures cause { HasCause (E.fault_count err.old) (E.fault_count err.new) result }
+    ensures kept { E.kept err.old err.new }
+{
+    match ending {
+        Ending::Dumped => put(page, err, b""),
+        Ending::Misused => put(page, err, b"gdbm_dump: usage error\n"),
+        Ending::Refused(error) => put_refusal(page, error, err),
+        Ending::OutputFailed => put(page, err, b"gdbm_dump: output fault\n"),
+        Ending::Starved => put(page, err, b"gdbm_dump: out of memory\n"),
+    }
+}
+
+// Writes the line of an ending.
+fn say<E: Sink>(err: &mut E, ending: Ending) -> Result<(), Failed>
+    ensures bytes { Puts (E.written err.old) (E.written err.new) result (line_of ending) }
+    ensures cause { HasCause (E.fault_count err.old) (E.fault_count err.new) result }
+    ensures kept { E.kept err.old err.new }
+{
+    let mut page = Page::new();
+    put_line(&mut page, ending, err)?;
+    flush(&mut page, err)
+}
+
 /// Says on standard error how the run ended, and answers the status.
 pub fn report<E: Sink>(err: &mut E, ending: Ending) -> u8
     ensures says { Says ending result (E.fault_count err.old) (E.fault_count err.new) (E.written err.old) (E.written err.new) }
     ensures later { E.fault_count err.old ≤ E.fault_count err.new }
     ensures kept { E.kept err.old err.new }
 {
-    match write_all(err, ending.line().as_bytes()) {
+    match say(err, ending) {
         Ok(()) => ending.status(),
         Err(_) => ending.status_untold(),
     }

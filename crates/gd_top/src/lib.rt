@@ -3,7 +3,7 @@
 
 ghost use Rattle.std.specs.Prelude.{◌≡◌, ◌≤◌, ◌↔◌, None, map, string_bytes};
 ghost use Rattle.gd_base.specs.Causes.{Rose};
-ghost use Rattle.gd_base.specs.Views.{OnlyAsks};
+ghost use Rattle.gd_vault.specs.Views.{OnlyAsks};
 ghost use Rattle.gd_top.specs.declared.ending.Ending.{Ending};
 ghost use Rattle.gd_top.specs.Dump.{Ends, Says};
 ghost use Rattle.gd_top.specs.Words.{reading};
@@ -15,8 +15,9 @@ mod words;
 
 use dump::dump;
 pub use ending::{Ending, report};
-use gd_base::{Sink, Vault};
-pub use host::{HostSink, HostVault, host_words};
+use gd_base::{Clock, Sink, Source};
+use gd_vault::Vault;
+pub use host::{HostClock, HostSink, HostSource, HostVault, host_words};
 use std::alloc::Global;
 pub use words::Refusal;
 use words::name_of;
@@ -56,13 +57,15 @@ fn dump_words<O: Sink, V: Vault>(
 }
 
 /// Runs a tool with the words after its name.
-pub fn run<O: Sink, E: Sink, V: Vault>(
+pub fn run<S: Source, O: Sink, E: Sink, V: Vault, C: Clock>(
     alloc: Global,
     tool: Tool,
     words: &[String],
+    input: &mut S,
     out: &mut O,
     err: &mut E,
     vault: &mut V,
+    clock: &mut C,
 ) -> Outcome
     // The words are refused.
     ensures usage { (result.status ≡ 3) ↔ (reading (map string_bytes words.now) ≡ None) }
@@ -71,6 +74,10 @@ pub fn run<O: Sink, E: Sink, V: Vault>(
     ensures ends { (e : Ending)
         × Ends e (reading (map string_bytes words.now)) (V.view_of vault.old) (Rose (V.view_of vault.old).faults (V.view_of vault.new).faults) (Rose (O.fault_count out.old) (O.fault_count out.new)) (O.written out.old) (O.written out.new)
         × Says e result.status (E.fault_count err.old) (E.fault_count err.new) (E.written err.old) (E.written err.new) }
+
+    // The input and the clock are left alone.
+    ensures input { (S.left input.new ≡ S.left input.old) × (S.fault_count input.new ≡ S.fault_count input.old) }
+    ensures clock { (C.told clock.new ≡ C.told clock.old) × (C.fault_count clock.new ≡ C.fault_count clock.old) }
 
     // The vault is only asked, and no count falls.
     ensures asks { OnlyAsks (V.view_of vault.old) (V.view_of vault.new) }

@@ -1,11 +1,14 @@
-ghost use Rattle.std.specs.Prelude.{◌≡◌, IfOk};
+ghost use Rattle.std.specs.Prelude.{◌≡◌, IfOk, IsErr};
 ghost use Rattle.gd_base.specs.Causes.{HasCause};
 ghost use Rattle.gd_top.specs.Host.{untold};
 
-use crate::{HostSink, HostVault, Tool, run};
-use gd_base::{CallList, Datum, Failed, FileId, MemSink, Name, Sink, SmallVault, Vault};
+use crate::{HostClock, HostSink, HostSource, HostVault, Tool, run};
+use gd_base::{CallList, Clock, Datum, Failed, MemClock, MemSink, MemSource, Name, Sink, Source};
+use gd_memvault::MemVault;
+use gd_vault::{CreateError, FileId, Mode, Vault};
 use std::alloc::{AllocError, Global};
 use std::fs;
+use std::process::Abort;
 use std::test::Fail;
 
 // A record in a slot of the only bucket.
@@ -153,15 +156,33 @@ fn run_over<V: Vault>(
     err_fails: &[u64],
 ) -> Result<Ran, Fail> {
     let words = words_of(alloc, words)?;
+    let mut input = MemSource::new(
+        Datum::from_slice(alloc, b"")?,
+        CallList::from_slice(alloc, &[])?,
+    );
+    let mut clock = MemClock::new(
+        CallList::from_slice(alloc, &[])?,
+        CallList::from_slice(alloc, &[])?,
+    );
     let mut out = sink(alloc, out_fails)?;
     let mut err = sink(alloc, err_fails)?;
-    let status = run(alloc, Tool::Dump, &words, &mut out, &mut err, vault).status;
+    let status = run(
+        alloc,
+        Tool::Dump,
+        &words,
+        &mut input,
+        &mut out,
+        &mut err,
+        vault,
+        &mut clock,
+    )
+    .status;
     Ok(Ran { status, out, err })
 }
 
-fn vault_of(alloc: Global, name: &str, file: Vec<u8>) -> Result<SmallVault, Fail> {
-    let mut vault = SmallVault::new(alloc);
-    vault.add_file(Name::new(alloc, name)?, Datum::from(file))?;
+fn vault_of(alloc: Global, name: &str, file: Vec<u8>) -> Result<MemVault, Fail> {
+    let mut vault = MemVault::plain(alloc);
+    vault.add_file(Name::new(alloc, name)?, Datum::from(file), Mode::Both, 0)?;
     Ok(vault)
 }
 
@@ -209,107 +230,138 @@ const HEAD: &str =
 
 const ONE: &str = "#:len=1\naw==\n#:len=1\ndg==\n#:count=1\n# End of data\n";
 
+// A file is dumped as its head and these lines.
+fn check_dump(rt: &impl Abort, alloc: Global, layout: &Layout, data: &str) -> Result<(), Fail> {
+    let mut vault = vault_of(alloc, "data/a.gdbm", file_of(alloc, layout)?)?;
+    let ran = run_over(alloc, &["data/a.gdbm"], &mut vault, &[], &[])?;
+    let text = format!(in alloc; "{HEAD}{data}")?;
+    assert_eq!(rt; ran.status, 0);
+    assert_eq!(rt; ran.out.bytes(), text.as_bytes());
+    assert!(rt; ran.err.bytes().is_empty());
+    Ok(())
+}
+
+// The worked file, byte for byte, has a free extent of 510 bytes at 1,538. The original magic, an allocated end below the
+// length and free space over the record do not matter to a reader.
 #[test]
-fn files_are_dumped(rt: HostRuntime) -> Result<(), Fail> {
+fn one_record_is_dumped(rt: HostRuntime) -> Result<(), Fail> {
     let alloc = rt.alloc();
-    let (one, high, empty, long) = ([K], [HIGH], [EMPTY], [LONG]);
-    let cases = [
-        // the worked file, byte for byte: a free extent of 510 bytes at 1,538
-        (
-            Layout {
-                free: (510, 1538),
-                ..plain(512, &one)
-            },
-            ONE,
-        ),
-        // the original magic
-        (
-            Layout {
-                magic: 0x1357_9ace,
-                ..plain(512, &one)
-            },
-            ONE,
-        ),
-        // an allocated end below the length, and free space over the record, do not matter to a reader
-        (
-            Layout {
-                next_block: 1024,
-                free: (2, 1536),
-                ..plain(512, &one)
-            },
-            ONE,
-        ),
-        (plain(512, &[]), "#:count=0\n# End of data\n"),
-        (
-            plain(512, &high),
-            "#:len=1\ngA==\n#:len=1\ndg==\n#:count=1\n# End of data\n",
-        ),
-        (
-            plain(4096, &empty),
-            "#:len=0\n#:len=0\n#:count=1\n# End of data\n",
-        ),
-        (
-            plain(512, &long),
-            "#:len=1\naw==\n#:len=58\nYWFhYWFhYWFhYWFhYWFhYWFhYWFhYWFhYWFhYWFhYWFhYWFhYWFhYWFhYWFhYWFhYWFhYWFhYWFh\nYQ==\n#:count=1\n# End of data\n",
-        ),
-    ];
-    for (layout, data) in &cases {
-        let mut vault = vault_of(alloc, "data/a.gdbm", file_of(alloc, layout)?)?;
-        let ran = run_over(alloc, &["data/a.gdbm"], &mut vault, &[], &[])?;
-        let mut text = String::from_str(alloc, HEAD)?;
-        text.push_str(data)?;
-        assert_eq!(rt; ran.status, 0);
-        assert_eq!(rt; ran.out.bytes(), text.as_bytes());
-        assert!(rt; ran.err.bytes().is_empty());
+    let one = [K];
+    let worked = Layout {
+        free: (510, 1538),
+        ..plain(512, &one)
+    };
+    check_dump(&rt, alloc, &worked, ONE)?;
+    let original = Layout {
+        magic: 0x1357_9ace,
+        ..worked
+    };
+    check_dump(&rt, alloc, &original, ONE)?;
+    let crowded = Layout {
+        next_block: 1024,
+        free: (2, 1536),
+        ..worked
+    };
+    check_dump(&rt, alloc, &crowded, ONE)
+}
+
+#[test]
+fn other_records_are_dumped(rt: HostRuntime) -> Result<(), Fail> {
+    let alloc = rt.alloc();
+    let none = "#:count=0\n# End of data\n";
+    check_dump(&rt, alloc, &plain(512, &[]), none)?;
+    let high = "#:len=1\ngA==\n#:len=1\ndg==\n#:count=1\n# End of data\n";
+    check_dump(&rt, alloc, &plain(512, &[HIGH]), high)?;
+    let empty = "#:len=0\n#:len=0\n#:count=1\n# End of data\n";
+    check_dump(&rt, alloc, &plain(4096, &[EMPTY]), empty)?;
+    let long =
+        "#:len=1\naw==\n#:len=58\nYWFhYWFhYWFhYWFhYWFhYWFhYWFhYWFhYWFhYWFhYWFhYWFhYWFhYWFhYWFhYWFhYWFhYWFhYWFh\nYQ==\n#:count=1\n# End of data\n";
+    check_dump(&rt, alloc, &plain(512, &[LONG]), long)
+}
+
+#[test]
+fn a_numsync_file_has_its_format(rt: HostRuntime) -> Result<(), Fail> {
+    let alloc = rt.alloc();
+    let one = [K];
+    let numsync = Layout {
+        magic: 0x1357_9ad1,
+        ..plain(512, &one)
+    };
+    let mut vault = vault_of(alloc, "a", file_of(alloc, &numsync)?)?;
+    let ran = run_over(alloc, &["a"], &mut vault, &[], &[])?;
+    assert_eq!(rt; ran.status, 0);
+    let text =
+        "# GDBM dump file created by gdbm_dump\n#:version=1.1\n#:file=a\n#:format=numsync\n# End of header\n#:len=1\naw==\n#:len=1\ndg==\n#:count=1\n# End of data\n";
+    assert_eq!(rt; ran.out.bytes(), text.as_bytes());
+    Ok(())
+}
+
+// A file is refused by this error, and nothing is printed.
+fn check_refusal(rt: &impl Abort, alloc: Global, file: Vec<u8>, error: &str) -> Result<(), Fail> {
+    let mut vault = vault_of(alloc, "a", file)?;
+    let ran = run_over(alloc, &["a"], &mut vault, &[], &[])?;
+    let line = format!(in alloc; "gdbm_dump: error {error}\n")?;
+    assert_eq!(rt; ran.status, 1);
+    assert_eq!(rt; ran.err.bytes(), line.as_bytes());
+    assert!(rt; ran.out.bytes().is_empty());
+    Ok(())
+}
+
+#[test]
+fn what_is_no_database_is_refused(rt: HostRuntime) -> Result<(), Fail> {
+    let alloc = rt.alloc();
+    check_refusal(&rt, alloc, Vec::new(alloc), "3 ShortFile")?;
+    check_refusal(&rt, alloc, [0xcf; 39].to_vec(alloc)?, "3 ShortFile")?;
+    let text = b"some text that is no database, of more than forty bytes".to_vec(alloc)?;
+    check_refusal(&rt, alloc, text, "4 BadMagic")?;
+    for (magic, error) in [
+        (0xcf9a_5713, "5 ByteSwapped"),
+        (0x1357_9acd, "6 WrongOffset"),
+        (0, "4 BadMagic"),
+    ] {
+        let layout = Layout {
+            magic,
+            ..plain(512, &[])
+        };
+        check_refusal(&rt, alloc, file_of(alloc, &layout)?, error)?;
     }
     Ok(())
 }
 
 #[test]
-fn refusals_have_their_lines(rt: HostRuntime) -> Result<(), Fail> {
+fn damaged_files_are_refused(rt: HostRuntime) -> Result<(), Fail> {
     let alloc = rt.alloc();
-    let one = [K];
+    let plain = plain(512, &[]);
+    let odd = Layout {
+        block: 768,
+        ..plain
+    };
+    check_refusal(&rt, alloc, file_of(alloc, &odd)?, "2 BlockSize")?;
+    let far = Layout {
+        next_block: 1 << 47,
+        ..plain
+    };
+    check_refusal(&rt, alloc, file_of(alloc, &far)?, "7 BadHeader")?;
     let changed = [Record {
         hash: 453_608_216,
         ..K
     }];
-    let numsync = Layout {
-        magic: 0x1357_9ad1,
-        ..plain(512, &one)
+    let changed = Layout {
+        records: &changed,
+        ..plain
     };
-    let wrong = [
-        Vec::new(alloc),
-        [1u8, 2, 3].to_vec(alloc)?,
-        [0xcfu8; 39].to_vec(alloc)?,
-        b"some text that is no database, of more than forty bytes".to_vec(alloc)?,
-        file_of(alloc, &numsync)?,
-        file_of(
-            alloc,
-            &Layout {
-                magic: 0,
-                ..plain(512, &one)
-            },
-        )?,
-        file_of(
-            alloc,
-            &Layout {
-                block: 4096,
-                ..plain(512, &changed)
-            },
-        )?,
-        file_of(alloc, &plain(512, &changed))?,
-    ];
-    for file in wrong {
-        let mut vault = vault_of(alloc, "a", file)?;
-        let ran = run_over(alloc, &["a"], &mut vault, &[], &[])?;
-        assert_eq!(rt; ran.status, 1);
-        assert_eq!(rt;
-            ran.err.bytes(),
-            b"gdbm_dump: not a readable file\n".as_slice()
-        );
-        assert!(rt; ran.out.bytes().is_empty());
-    }
-    let mut vault = vault_of(alloc, "a", file_of(alloc, &plain(512, &one))?)?;
+    check_refusal(
+        &rt,
+        alloc,
+        file_of(alloc, &changed)?,
+        "11 BadHashEntry 1024 7",
+    )
+}
+
+#[test]
+fn words_and_names_are_refused(rt: HostRuntime) -> Result<(), Fail> {
+    let alloc = rt.alloc();
+    let mut vault = vault_of(alloc, "a", Vec::new(alloc))?;
     let absent = run_over(alloc, &["b"], &mut vault, &[], &[])?;
     assert_eq!(rt; absent.status, 1);
     assert_eq!(rt;
@@ -341,13 +393,20 @@ impl Failing {
             self.calls -= 1;
             return Ok(answer);
         }
+        self.fail()
+    }
+
+    fn fail<T: Drop>(&mut self) -> Result<T, Failed>
+        ensures err { IsErr result }
+        ensures cause { HasCause self.old.faults self.new.faults result }
+    {
         self.faults = self.faults.saturating_add(1);
         Err(Failed)
     }
 }
 
 impl Vault for Failing {
-    ghost view_of = { λ v. untold v.faults };
+    ghost view_of = { λ v. untold v.faults 0 0 };
 
     fn faults(&self) -> u64 {
         self.faults
@@ -361,12 +420,59 @@ impl Vault for Failing {
         self.answer(Some(FileId(0)))
     }
 
+    fn create(&mut self, _name: &Name, _mode: Mode) -> Result<FileId, CreateError> {
+        match self.answer(FileId(0)) {
+            Ok(f) => Ok(f),
+            Err(Failed) => Err(CreateError::Failed),
+        }
+    }
+
     fn len(&mut self, _f: FileId) -> Result<u64, Failed> {
         self.answer(1538)
     }
 
+    fn mode(&mut self, _f: FileId) -> Result<Mode, Failed> {
+        self.answer(Mode::Both)
+    }
+
+    fn stamp(&mut self, _f: FileId) -> Result<u64, Failed> {
+        self.answer(0)
+    }
+
     fn read_at(&mut self, _f: FileId, _at: u64, _buf: &mut [u8]) -> Result<usize, Failed> {
         self.answer(0)
+    }
+
+    fn write_at(&mut self, _f: FileId, _at: u64, _bytes: &[u8]) -> Result<(), Failed> {
+        self.fail()
+    }
+
+    fn truncate(&mut self, _f: FileId) -> Result<(), Failed> {
+        self.fail()
+    }
+
+    fn clone_into(&mut self, _dst: FileId, _src: FileId, _stamp: u64) -> Result<(), Failed> {
+        self.fail()
+    }
+
+    fn set_mode(&mut self, _f: FileId, _mode: Mode) -> Result<(), Failed> {
+        self.fail()
+    }
+
+    fn sync(&mut self, _f: FileId) -> Result<(), Failed> {
+        self.fail()
+    }
+
+    fn sync_names(&mut self) -> Result<(), Failed> {
+        self.fail()
+    }
+
+    fn replace(&mut self, _from: &Name, _to: &Name) -> Result<(), Failed> {
+        self.fail()
+    }
+
+    fn remove(&mut self, _name: &Name) -> Result<(), Failed> {
+        self.fail()
     }
 }
 
@@ -397,31 +503,91 @@ fn faults_have_their_lines(rt: HostRuntime) -> Result<(), Fail> {
 }
 
 #[test]
-fn files_of_the_host_are_read(rt: HostRuntime) -> Result<(), Fail> {
+fn ranges_of_a_host_file(rt: HostRuntime) -> Result<(), Fail> {
     let alloc = rt.alloc();
-    fs::write(&rt, "one", b"hello")?;
-    fs::create_dir(&rt, "folder")?;
-    fs::hard_link(&rt, "one", "two")?;
+    let name = Name::new(alloc, "ranges")?;
     let mut vault = HostVault::new(&rt, alloc);
-    assert!(rt; vault.lookup(&Name::new(alloc, "none")?) == Ok(None));
-    assert!(rt; vault.lookup(&Name::new(alloc, "folder")?) == Err(Failed));
+    assert!(rt; vault.lookup(&name) == Ok(None));
+    let f = vault.create(&name, Mode::Both).map_err(|_| "a new file")?;
+    assert!(rt; vault.create(&name, Mode::Both) == Err(CreateError::Exists));
+    assert!(rt; vault.write_at(f, 0, b"ab") == Ok(()));
+    assert!(rt; vault.write_at(f, 4, b"cd") == Ok(()));
+    assert!(rt; vault.write_at(f, u64::MAX, b"x") == Err(Failed));
+    let mut buf = *b"........";
+    assert!(rt; vault.read_at(f, 1, &mut buf) == Ok(5));
+    assert_eq!(rt; buf, *b"b\0\0cd...");
+    assert!(rt; vault.read_at(f, u64::MAX, &mut buf) == Ok(0));
+    assert!(rt; vault.truncate(f) == Ok(()));
+    assert!(rt; vault.len(f) == Ok(0));
+    assert!(rt; vault.len(FileId(77)) == Err(Failed));
+    assert_eq!(rt; vault.faults(), 2);
+    Ok(fs::remove_file(&rt, "ranges")?)
+}
+
+#[test]
+fn companions_of_host_files(rt: HostRuntime) -> Result<(), Fail> {
+    let alloc = rt.alloc();
+    let name = Name::new(alloc, "marked")?;
+    let mut vault = HostVault::new(&rt, alloc);
+    let f = vault
+        .create(&name, Mode::WriteOnly)
+        .map_err(|_| "a new file")?;
+    assert!(rt; vault.mode(f) == Ok(Mode::WriteOnly));
+    assert!(rt; vault.set_mode(f, Mode::ReadOnly) == Ok(()));
+    assert_eq!(rt; fs::read_to_string(&rt, "marked.mode")?.as_str(), "r 0\n");
+    fs::write(&rt, "marked.mode", "r 01\n")?;
+    assert!(rt; vault.stamp(f) == Err(Failed));
+    fs::write(&rt, "marked.mode", "b 7\n")?;
+    assert!(rt; vault.stamp(f) == Ok(7));
+    assert!(rt; vault.sync(f) == Ok(()));
+    assert!(rt; vault.remove(&name) == Ok(()));
+    assert!(rt; fs::metadata(&rt, "marked.mode").is_err());
     assert_eq!(rt; vault.faults(), 1);
-    let Ok(Some(one)) = vault.lookup(&Name::new(alloc, "one")?) else {
+    Ok(())
+}
+
+#[test]
+fn names_of_host_files(rt: HostRuntime) -> Result<(), Fail> {
+    let alloc = rt.alloc();
+    let (one, two) = (Name::new(alloc, "one")?, Name::new(alloc, "folder/two")?);
+    fs::create_dir(&rt, "folder")?;
+    fs::write(&rt, "one", "hello")?;
+    let mut vault = HostVault::new(&rt, alloc);
+    assert!(rt; vault.lookup(&Name::new(alloc, "folder")?) == Err(Failed));
+    let g = vault
+        .create(&two, Mode::ReadOnly)
+        .map_err(|_| "a new file")?;
+    let Ok(Some(f)) = vault.lookup(&one) else {
         return Err("a file".into());
     };
-    assert!(rt; vault.lookup(&Name::new(alloc, "./two")?) == Ok(Some(one)));
-    assert!(rt; vault.len(one) == Ok(5));
-    let mut buf = *b"........";
-    assert!(rt; vault.read_at(one, 1, &mut buf) == Ok(4));
-    assert_eq!(rt; buf, *b"ello....");
-    assert!(rt; vault.read_at(one, u64::MAX, &mut buf) == Ok(0));
-    assert!(rt; vault.len(FileId(7)) == Err(Failed));
-    assert_eq!(rt; vault.faults(), 2);
-    fs::remove_file(&rt, "one")?;
-    fs::remove_file(&rt, "two")?;
-    fs::remove_dir(&rt, "folder")?;
+    assert!(rt; vault.clone_into(g, f, 9) == Ok(()));
+    assert!(rt; vault.sync_names() == Ok(()));
+    assert!(rt; vault.replace(&two, &one) == Ok(()));
+    assert!(rt; vault.lookup(&two) == Ok(None));
+    assert!(rt; vault.lookup(&one) == Ok(Some(g)));
+    assert!(rt; vault.mode(g) == Ok(Mode::ReadOnly));
+    assert!(rt; vault.stamp(g) == Ok(9));
+    assert!(rt; vault.len(g) == Ok(5));
+    fs::hard_link(&rt, "one", "link")?;
+    assert!(rt; vault.lookup(&Name::new(alloc, "./link")?) == Ok(Some(g)));
+    assert!(rt; vault.remove(&one) == Ok(()));
+    let nowhere = vault.create(&Name::new(alloc, "none/x")?, Mode::Both);
+    assert!(rt; nowhere == Err(CreateError::Failed));
+    fs::remove_file(&rt, "link")?;
+    Ok(fs::remove_dir(&rt, "folder")?)
+}
+
+#[test]
+fn streams_and_clock_of_the_host(rt: HostRuntime) -> Result<(), Fail> {
     let mut out = HostSink::new(rt.stdout());
     assert!(rt; out.write(b"\n") == Ok(1));
     assert_eq!(rt; out.faults(), 0);
+    let mut input = HostSource::new(rt.stdin());
+    let mut buf = [0u8; 4];
+    assert!(rt; input.read(&mut buf).is_ok());
+    assert_eq!(rt; input.faults(), 0);
+    let mut clock = HostClock::new(&rt);
+    assert!(rt; clock.now().is_ok_and(|now| now > 1_600_000_000_000_000_000));
+    assert_eq!(rt; clock.faults(), 0);
     Ok(())
 }

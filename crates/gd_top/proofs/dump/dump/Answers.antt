@@ -1,5 +1,5 @@
 use Rattle.std.proofs.Common.{◌≡◌, ◌∙◌, ap, Some, sym}
-use Rattle.gd_base.specs.Views.{IsAt}
+use Rattle.gd_vault.specs.Views.{IsAt}
 use Rattle.gd_top.specs.Dump.{bytes_of}
 use Rattle.gd_top.proofs.Ends.{ends_over}
 use Rattle.gd_top.proofs.dump.dump.Goals as goal

@@ -1,7 +1,7 @@
 use Rattle.std.proofs.Common.{◌≡◌, ◌∙◌, ap, sym, length, drop, Some}
 use Rattle.std.specs.Prelude.{option_map}
-use Rattle.gd_base.specs.Content.{File}
-use Rattle.gd_base.specs.Views.{content_of}
+use Rattle.gd_vault.specs.Content.{File}
+use Rattle.gd_vault.specs.Views.{content_of}
 use Rattle.gd_top.proofs.Files.{read_all}
 use Rattle.gd_top.proofs.dump.read_file.Goals as goal
 
