@@ -1,5 +1,5 @@
 -- What the tests of a header ask of its fields by themselves.
-use Rattle.std.specs.Prelude.{◌≡◌, ◌+◌, ◌≤◌, ◌<◌, ◌^◌, ℕ, true, pos}
+use Rattle.std.specs.Prelude.{◌≡◌, ◌+◌, ◌≤◌, ◌<◌, ◌^◌, true, pos}
 use Rattle.gd_format.specs.declared.Header.{Header}
 use Rattle.gd_format.specs.HeaderFault.{dir_size_of, is_block_size, slots_of, table_room}
 

@@ -62,6 +62,13 @@ pub struct Extent {
     pub size: u32,
 }
 
+/// An extent of a file, with the address that its refusal names.
+#[derive(Clone, Copy, Debug, PartialEq, Eq)]
+pub struct Held {
+    pub extent: Extent,
+    pub by: u64,
+}
+
 /// A slot of a bucket.
 #[derive(Clone, Copy, Debug, PartialEq, Eq)]
 pub enum Slot {
