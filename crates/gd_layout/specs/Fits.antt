@@ -17,3 +17,9 @@ pub record FitsBucket (depth : ℕ) (extents : List Extent) (table : List Slot) 
   pub spare : 6 ≤ room
   pub elems : length table < 2 ^ 32
   pub slots : All FitsFields table
+
+-- a block of free space has no more extents than its room
+pub record FitsAvail (extents : List Extent) (most room : ℕ) : Type 0 where
+  pub few : length extents ≤ most
+  pub spare : most ≤ room
+  pub small : most < 2 ^ 32

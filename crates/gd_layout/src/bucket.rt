@@ -173,7 +173,7 @@ impl Bucket {
 }
 
 #[tactic(auto, unfolding(gd_format::specs::Bucket::extent_of))]
-fn extent_from(raw: &RawExtent) -> Extent
+pub fn extent_from(raw: &RawExtent) -> Extent
     ensures { result ≡ extent_of raw.now }
 {
     Extent {

@@ -3,6 +3,7 @@
 //! Each reading call equals its definition over the bytes in `gd_format`; `docs/FORMAT.md` has the layout in words.
 #![tactic(auto)]
 
+mod avail;
 mod bucket;
 mod entries;
 mod fields;
@@ -12,6 +13,7 @@ mod header;
 mod tests;
 mod writing;
 
+pub use crate::avail::{AvailBlock, has_right_extent};
 pub use crate::bucket::{Bucket, LayoutError};
 pub use crate::fields::{i32_from, i64_from, u32_from, u64_from};
 pub use crate::hashing::{hash, hash_end, hash_more, hash_start};
