@@ -1,12 +1,9 @@
 -- What one call of a vault gives, in the words of a check.
-use Rattle.std.proofs.Common.{◌≡◌, ◌+◌, ◌-◌, ◌^◌, ◌<◌, ◌≤◌, ℕ, Bool, true, false, List, length, take, min, Option, Some, None, refl, sym, ap, ◌∙◌, arith}
-use Rattle.std.specs.Prelude.{option_map, is_some, Result, Ok, Err}
-use Rattle.std.specs.Option.{option_and_then}
-use Rattle.gd_base.specs.Causes.{Rose}
-use Rattle.gd_base.specs.declared.errors.Failed.{Failed}
+use Rattle.std.proofs.Common.{◌≡◌, ◌+◌, ◌-◌, ◌^◌, ◌<◌, ◌≤◌, ℕ, true, List, length, take, min, Option, Some, None, refl, sym, ap, ◌∙◌, arith}
+use Rattle.std.specs.Prelude.{option_map, is_some, Result}
 use Rattle.gd_format.specs.Field.{bytes_at}
 use Rattle.gd_vault.specs.Content.{File, Content}
-use Rattle.gd_vault.specs.Views.{Told, View, content_of, HasFile, Asked, Answered, OnlyAsks}
+use Rattle.gd_vault.specs.Views.{View, content_of, HasFile, Asked, Answered, OnlyAsks}
 use Rattle.gd_verify.specs.declared.reading.Stopped.{Stopped}
 use Rattle.gd_verify.specs.declared.reading.Stopped.TheVariants.{Fault, NoMemory}
 use Rattle.gd_verify.specs.Asks.{Kept, kept_of, bytes_in, file_in, is_there, is_file_in, Tells, IsCause}

@@ -1,5 +1,5 @@
 -- One step of a walk: the records that are left, and what is told of the file.
-use Rattle.std.proofs.Common.{◌≡◌, ◌≤◌, ℕ, List, [], ◌∷◌, ◌++◌, length, take, drop, None, Some, Option, refl, sym, ap, ◌∙◌, arith}
+use Rattle.std.proofs.Common.{◌≡◌, ℕ, List, [], ◌∷◌, ◌++◌, length, take, drop, None, Some, Option, refl, ap, ◌∙◌, arith}
 use Rattle.std.specs.Prelude.{Result, Ok, Err, IfOk, IfErr, IfSome, IfNone}
 use Rattle.std.proofs.Math.Seq.{take-append_seam}
 use Rattle.gd_base.specs.Causes.{Rose}
@@ -9,7 +9,7 @@ use Rattle.gd_format.specs.File.{is_full_at}
 use Rattle.gd_vault.specs.Content.{File, Content}
 use Rattle.gd_vault.specs.Views.{View, HasFile, IsAt, content_of}
 use Rattle.gd_verify.specs.Asks.{kept_of, bytes_in, Tells, Refuses, RefusesWalk}
-use Rattle.gd_verify.specs.Left.{passing_from, slots_left, buckets_left, records_left}
+use Rattle.gd_verify.specs.Left.{passing_from, buckets_left, records_left}
 use Rattle.gd_verify.specs.Standing.{Standing, StandsIn, left_of}
 use Rattle.gd_verify.proofs.Asks.{bytes_told}
 use Rattle.gd_verify.proofs.Passing.{no_slots, slots_none}

@@ -1,5 +1,5 @@
 -- Bytes at places, and slots by their hashes.
-use Rattle.std.proofs.Common.{zero, suc, take, drop, Option, Some, eqb, leb, ◌||◌, ◌≤◌, length, ◌≡◌, ℕ, ◌+◌, ◌<◌, ◌≢◌, Bool, true, false, not, List, [], refl, sym, ap, ◌∙◌, arith}
+use Rattle.std.proofs.Common.{zero, suc, take, drop, Some, eqb, leb, ◌||◌, ◌≤◌, length, ◌≡◌, ℕ, ◌+◌, ◌<◌, ◌≢◌, Bool, true, false, not, List, [], refl, sym, ap, ◌∙◌, arith}
 use Rattle.std.specs.Str.{bytes_eq}
 use Rattle.std.proofs.lemmas.Slice.Eq.{bytes_eq-Decides}
 use Rattle.std.proofs.lemmas.List.{take-take, drop-take, drop-drop}

@@ -4,9 +4,7 @@ use Rattle.std.specs.Option.{option_and_then}
 use Rattle.gd_base.specs.Causes.{Rose}
 use Rattle.gd_base.specs.declared.errors.DbError.{DbError}
 use Rattle.gd_base.specs.declared.errors.DbError.TheVariants.{VaultFault, OutOfMemory}
-use Rattle.gd_format.specs.Bucket.{raw_slot_at}
-use Rattle.gd_format.specs.HeaderFault.{natural}
-use Rattle.gd_format.specs.File.{is_full_at, file_fault}
+use Rattle.gd_format.specs.File.{file_fault}
 use Rattle.gd_verify.specs.declared.reading.Stopped.{Stopped}
 use Rattle.gd_verify.specs.declared.reading.Stopped.TheVariants.{Fault, NoMemory}
 use Rattle.gd_vault.specs.Content.{File, Content}

@@ -1,4 +1,4 @@
-use Rattle.std.proofs.Common.{◌≡◌, ◌+◌, ◌∙◌, Some, sym, rules}
+use Rattle.std.proofs.Common.{◌≡◌, ◌+◌, Some, sym, rules}
 use Rattle.gd_base.specs.declared.errors.DbError.TheVariants.{BadDirEntry}
 use Rattle.gd_format.specs.File.{entry_at, run_fault}
 use Rattle.gd_format.proofs.Firsts.{first_below_found}

@@ -1,7 +1,6 @@
-use Rattle.std.proofs.Common.{◌≡◌, ◌≤◌, Some, None, length, take, sym, ap, ◌∙◌, arith}
+use Rattle.std.proofs.Common.{take, sym, ap, ◌∙◌, arith}
 use Rattle.std.proofs.lemmas.List.{length-take-le}
 use Rattle.gd_format.specs.HeaderFault.{header_fault_of}
-use Rattle.gd_format.specs.File.{front_of}
 use Rattle.gd_verify.proofs.Headers.{header_in}
 use Rattle.gd_verify.proofs.Fronts.{front_read}
 use Rattle.gd_verify.proofs.checking.stored_header.Goals as goal

@@ -1,5 +1,4 @@
-use Rattle.std.proofs.Common.{◌≤◌, ◌+◌, refl, sym, ◌∙◌, arith}
-use Rattle.std.specs.Prelude.{length}
+use Rattle.std.proofs.Common.{refl, sym, ◌∙◌, arith}
 use Rattle.gd_format.specs.HeaderFault.{natural}
 use Rattle.gd_format.specs.File.{key_of}
 use Rattle.gd_verify.specs.Asks.{IsIn}

@@ -1,4 +1,4 @@
-use Rattle.std.proofs.Common.{◌≡◌, Some, None, ap, sym, ◌∙◌, rules, arith}
+use Rattle.std.proofs.Common.{◌≡◌, Some, ap, sym, ◌∙◌, rules, arith}
 use Rattle.gd_format.specs.File.{slot_fault}
 use Rattle.gd_format.proofs.Firsts.{first_below_found, first_below_more}
 use Rattle.gd_verify.specs.Asks.{Kept, kept_of, bytes_in}

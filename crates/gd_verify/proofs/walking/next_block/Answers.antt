@@ -1,4 +1,4 @@
-use Rattle.std.proofs.Common.{◌≡◌, ℕ, ◌+◌, ◌<◌, ◌≤◌, ◌^◌, false, true, length, None, [], ◌∷◌, ap, sym, ◌∙◌, arith}
+use Rattle.std.proofs.Common.{◌≡◌, ◌+◌, ◌<◌, ◌≤◌, ◌^◌, false, true, length, None, [], ◌∷◌}
 use Rattle.gd_format.specs.File.{block_of, dir_fault, entries_of, is_first}
 use Rattle.gd_verify.specs.Asks.{kept_of, bytes_in, Tells}
 use Rattle.gd_verify.specs.Checks.{IsHeaderIn}

@@ -1,4 +1,4 @@
-use Rattle.std.proofs.Common.{◌≡◌, ◌≤◌, ◌<◌, ◌++◌, ℕ, List, [], length, take, drop, sym, ap, ◌∙◌, rules, arith}
+use Rattle.std.proofs.Common.{◌≡◌, ◌≤◌, ◌<◌, ◌++◌, [], length, take, drop, sym, ap, ◌∙◌, rules, arith}
 use Rattle.gd_format.specs.File.{entries_of, is_full_at}
 use Rattle.gd_verify.specs.Asks.{kept_of, bytes_in, Tells}
 use Rattle.gd_verify.specs.Left.{IsWalk, passing_from, buckets_left, records_left}

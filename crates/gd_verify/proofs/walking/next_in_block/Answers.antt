@@ -1,4 +1,4 @@
-use Rattle.std.proofs.Common.{◌≡◌, false, true, length, ap, sym, ◌∙◌}
+use Rattle.std.proofs.Common.{◌≡◌, false, true, length, ap, ◌∙◌}
 use Rattle.gd_format.specs.File.{are_fields_right, is_record_in, key_of, value_of}
 use Rattle.gd_verify.specs.Asks.{kept_of, bytes_in, Tells}
 use Rattle.gd_verify.proofs.Left.{record_of_walk, fields_of_walk, slot_left, walk_slot}

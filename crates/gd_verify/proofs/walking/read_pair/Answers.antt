@@ -1,5 +1,5 @@
 use Rattle.std.proofs.Common.{◌≡◌, true, length, take, drop, ap, ◌∙◌}
-use Rattle.std.specs.Prelude.{List, ℕ}
+use Rattle.std.specs.Prelude.{ℕ}
 use Rattle.gd_format.specs.Field.{bytes_at}
 use Rattle.gd_format.specs.HeaderFault.{natural}
 use Rattle.gd_format.specs.File.{is_record_in, size_of}

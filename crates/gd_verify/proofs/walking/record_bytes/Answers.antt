@@ -1,10 +1,8 @@
-use Rattle.std.proofs.Common.{◌≡◌, ◌+◌, length, take, drop, ◌++◌, ap, sym, ◌∙◌, arith}
+use Rattle.std.proofs.Common.{◌≡◌, length, take, drop, ◌++◌, ap, sym, ◌∙◌, arith}
 use Rattle.std.proofs.Math.Seq.{take-append_seam}
-use Rattle.std.specs.Prelude.{List, ℕ}
+use Rattle.std.specs.Prelude.{ℕ}
 use Rattle.gd_format.specs.Field.{bytes_at}
-use Rattle.gd_format.specs.HeaderFault.{natural}
 use Rattle.gd_format.specs.File.{size_of}
-use Rattle.gd_verify.specs.Asks.{IsIn}
 use Rattle.gd_verify.proofs.Places.{record_inside}
 use Rattle.gd_verify.proofs.walking.record_bytes.Goals as goal
 

@@ -1,4 +1,4 @@
-use Rattle.std.proofs.Common.{◌≡◌, ℕ, List, refl, sym, ap}
+use Rattle.std.proofs.Common.{◌≡◌, ℕ, List, refl, ap}
 use Rattle.gd_format.specs.declared.Header.{Header}
 use Rattle.gd_verify.specs.Standing.{Standing}
 use Rattle.gd_verify.proofs.Asks.{is_there_now, only_asks}
