@@ -1,6 +1,7 @@
 pub mod Calls
 pub mod Candidates
 pub mod Disks
+pub mod Idles
 pub mod Logs
 pub mod Names
 pub mod Ranges

@@ -85,6 +85,13 @@ push_told first l m e room before is effect =
     fold_push first l.entries e [] ∙ ap (λ n. event (call_of e.step) e.ok (disk_content e.after) ∷ idles first n (fold (add_entry first) [] l.entries)) before in
     (disk_content e.after, ap (λ (k : LogData). Records first (events_of first k)) is ∙ ap (Records first) more, effect, omega (arith, room, moment_is first l))
 
+pub idle_content : (first : Content) (l m : LogData) → m ≡ record l { idle = l.idle + 1 } → content_after first (events_of first m) ≡ content_after first (events_of first l)
+idle_content first l m is =
+    ap (λ (k : LogData). content_after first (events_of first k)) is ∙ (content_idles first (l.idle + 1) (fold (add_entry first) [] l.entries) ∙ sym (content_idles first l.idle (fold (add_entry first) [] l.entries)))
+
+pub push_content : (first : Content) (l m : LogData) (e : Entry) → m ≡ record { entries = l.entries ++ e ∷ []; idle = 0 } → content_after first (events_of first m) ≡ disk_content e.after
+push_content first l m e is = ap (λ (k : LogData). content_after first (events_of first k)) is ∙ ap (content_after first) (fold_push first l.entries e [])
+
 -- no moment for one more
 pub full_told : (first : Content) (l : LogData) → (moment_of l + 2 < 2 ^ 64 → ⊥) → AddsNone first (events_of first l) (Records first (events_of first l))
 full_told first l full = (refl, let past : 2 ^ 64 ≤ moment_of l + 2 = omega (arith, full) in omega (arith, past, moment_is first l))

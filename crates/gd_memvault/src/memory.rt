@@ -1,15 +1,16 @@
 //! The vault in memory, beside its calls as a vault.
 
-ghost use Rattle.std.specs.Prelude.{◌≡◌, ◌≢◌, ◌⊎◌, ◌↔◌, ◌+◌, ◌-◌, ◌<◌, ◌≤◌, ◌^◌, ◌++◌, ◌∷◌, [], take, drop, Some, None, min, length, Contains, IfOk, IfSome, IsErr, IsErrOf, IsTrue, OnErr, OnOk, is_ok, option_map};
+ghost use Rattle.std.specs.Prelude.{◌≡◌, ◌≢◌, ◌⊎◌, ◌↔◌, ◌+◌, ◌-◌, ◌<◌, ◌≤◌, ◌^◌, ◌++◌, ◌∷◌, [], false, take, drop, Some, None, min, length, Contains, IfOk, IfSome, IsErr, IsErrOf, IsTrue, OnErr, OnOk, is_ok, option_map};
 ghost use Rattle.gd_base.specs.Causes.{HasCause, Rose};
 ghost use Rattle.gd_vault.specs.Content.{File};
-ghost use Rattle.gd_vault.specs.Changes.{Changed, Cloned, KeepsContent, TellsAfter, Wrote};
+ghost use Rattle.gd_vault.specs.Changes.{Changed, Cloned, KeepsContent, Refused, TellsAfter, Wrote};
 ghost use Rattle.gd_vault.specs.Events.{Call};
 ghost use Rattle.gd_vault.specs.Events.Call.{Clone_into, Create, Write};
 ghost use Rattle.gd_vault.specs.Lawful.{IsLawfulWhere};
 ghost use Rattle.gd_vault.specs.Views.{HasFile, IsAt, IsMoment, content_of};
 ghost use Rattle.gd_memvault.specs.Disk.{CanDo, call_of, disk_content};
 ghost use Rattle.gd_memvault.specs.Ended.{IsAtTold};
+ghost use Rattle.gd_memvault.specs.Idle.{IdleWhereStarved};
 ghost use Rattle.gd_memvault.specs.Image.{HoldsImage, IsLeft};
 ghost use Rattle.gd_memvault.specs.Log.{DoesNothing, IsFull, told_of};
 ghost use Rattle.gd_memvault.specs.Memory.{AddsDurable, Fails, HasMoment, HasNoEvent, KeepsRest, fresh, memory_told, memory_view, next_number};
@@ -149,15 +150,17 @@ impl MemVault {
         do_nothing(&mut self.log);
     }
 
-    // Does a step.
+    // Does a step, unless it is to fail.
     pub(crate) fn change(&mut self, listed: bool, step: Step) -> Result<(), Failed>
-        requires { IsAtTold (memory_told self.old) (CanDo step) }
+        requires { listed ≡ false → IsAtTold (memory_told self.old) (CanDo step) }
         ensures told { TellsAfter (call_of step) (is_ok result) (memory_told self.old) (memory_told self.new) }
         ensures cause { HasCause self.old.faults self.new.faults result }
         ensures failed { OnErr result (IsTrue listed ⊎ IsFull (memory_told self.old) ⊎ Rose self.old.starved self.new.starved) }
         ensures listed { IsTrue listed → IsErr result }
         ensures fed { OnOk result (self.new.starved ≡ self.old.starved) }
         ensures starved { self.old.starved ≤ self.new.starved }
+        ensures content { IsTrue listed → content_of (memory_told self.new) ≡ content_of (memory_told self.old) }
+        ensures idle { IdleWhereStarved self.old self.new }
         ensures rest { KeepsRest self.old self.new }
     {
         match change(self.alloc, &mut self.disk, &mut self.log, listed, step) {
@@ -292,6 +295,7 @@ impl MemVault {
         requires { IsAtTold (memory_told self.old) (CanDo step) }
         ensures changed { Changed (call_of step) result (memory_view self.old) (memory_view self.new) }
         ensures fails { Fails (IsFull (memory_told self.old)) result self.old self.new }
+        ensures idle { IdleWhereStarved self.old self.new }
     {
         let listed = self.next_call();
         self.change(listed, step)
@@ -301,6 +305,8 @@ impl MemVault {
     pub(crate) fn starve_next(&mut self) -> Result<(), Failed>
         ensures changed { (call : Call) → Changed call result (memory_view self.old) (memory_view self.new) }
         ensures fails { Fails ⊥ result self.old self.new }
+        ensures idle { IdleWhereStarved self.old self.new }
+        ensures content { KeepsContent (memory_view self.old) (memory_view self.new) }
         ensures failed { IsErr result }
     {
         self.next_call();
@@ -312,6 +318,7 @@ impl MemVault {
     pub(crate) fn create_next(&mut self, name: &Name, mode: Mode) -> Result<(), Failed>
         ensures changed { Changed (Create name.now mode) result (memory_view self.old) (memory_view self.new) }
         ensures fails { Fails (IsFull (memory_told self.old)) result self.old self.new }
+        ensures idle { IdleWhereStarved self.old self.new }
     {
         match Datum::from_slice(self.alloc, name.as_str().as_bytes()) {
             Ok(copy) => self.change_next(Step::Create(copy, mode)),
@@ -324,6 +331,7 @@ impl MemVault {
         requires { at + length part < 2 ^ 63 }
         ensures wrote { Wrote (Write f.0 at part) (length part) result (memory_view self.old) (memory_view self.new) }
         ensures fails { Fails (IsFull (memory_told self.old)) result self.old self.new }
+        ensures idle { IdleWhereStarved self.old self.new }
     {
         let size = part.as_slice().len() as u64;
         match self.change_next(Step::Write(f.0, at, part)) {
@@ -340,6 +348,7 @@ impl MemVault {
         requires { HasFile (memory_view self.old) src.0 }
         ensures cloned { Cloned (Clone_into dst.0 src.0 stamp) result (memory_view self.old) (memory_view self.new) }
         ensures fails { Fails (IsFull (memory_told self.old)) result self.old self.new }
+        ensures idle { IdleWhereStarved self.old self.new }
     {
         match self.change_next(Step::CloneInto(dst.0, src.0, stamp)) {
             Ok(()) => {
@@ -350,16 +359,16 @@ impl MemVault {
         }
     }
 
-    // The next changing call, which is refused, and counted.
-    pub(crate) fn refuse_next(&mut self) -> Result<(), Failed>
-        ensures changed { (call : Call) → Changed call result (memory_view self.old) (memory_view self.new) }
-        ensures content { KeepsContent (memory_view self.old) (memory_view self.new) }
-        ensures failed { IsErr result }
-        ensures rest { (self.new.fails ≡ self.old.fails) × (self.new.calls ≡ next_number self.old.calls) × (self.new.starved ≡ self.old.starved) }
+    // The next changing call, which is a write past the longest length.
+    pub(crate) fn refuse_next(&mut self, f: FileId, at: u64, part: Datum) -> Result<(), Failed>
+        requires { 2 ^ 63 ≤ at + length part }
+        ensures wrote { Wrote (Write f.0 at part) (length part) result (memory_view self.old) (memory_view self.new) }
+        ensures refused { Refused result (memory_view self.old) (memory_view self.new) }
+        ensures fails { Fails (IsFull (memory_told self.old) ⊎ (2 ^ 63 ≤ at + length part)) result self.old self.new }
+        ensures idle { IdleWhereStarved self.old self.new }
     {
         self.next_call();
-        self.do_nothing();
-        Err(self.fault())
+        self.change(true, Step::Write(f.0, at, part))
     }
 
     // Reads as much as there is and fits.

@@ -268,6 +268,22 @@ fn a_mode_that_is_not_synced_is_left_old_or_new(rt: HostRuntime) -> Result<(), F
     Ok(())
 }
 
+#[test]
+fn a_mode_that_failed_to_be_set_is_left_old_or_new(rt: HostRuntime) -> Result<(), Fail> {
+    let alloc = rt.alloc();
+    let mut vault = MemVault::new(alloc);
+    added(&mut vault, alloc, "f", b"")?;
+    vault.fail_calls(CallList::from_slice(alloc, &[1])?);
+    let f = file(&mut vault, alloc, "f")?;
+    assert!(rt; vault.set_mode(f, Mode::ReadOnly) == Err(Failed));
+    assert_eq!(rt; vault.faults(), 1);
+    assert_eq!(rt; vault.starved(), 0);
+    assert_eq!(rt; vault.moment(), 2);
+    assert!(rt; mode_left(&vault, alloc, &[])? == Mode::Both);
+    assert!(rt; mode_left(&vault, alloc, &[1])? == Mode::ReadOnly);
+    Ok(())
+}
+
 fn names_left(vault: &MemVault, alloc: Global, pick: &[u64]) -> Result<(bool, bool), Fail> {
     let mut left = image(vault, alloc, 2, pick)?;
     Ok((

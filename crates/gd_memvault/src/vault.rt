@@ -6,6 +6,7 @@ ghost use Rattle.gd_vault.specs.Events.Call.{Write, Truncate, Clone_into, Set_mo
 ghost use Rattle.gd_vault.specs.Views.{Asked, HasFile, IsAt, IsMoment, ReadAt};
 ghost use Rattle.gd_vault.specs.Changes.{Changed, Cloned, Creates, ExistsWhere, HasName, Refused, Wrote};
 ghost use Rattle.gd_vault.specs.Lawful.{IsLawfulWhere};
+ghost use Rattle.gd_memvault.specs.Idle.{IdleWhereStarved};
 ghost use Rattle.gd_memvault.specs.Log.{IsFull};
 ghost use Rattle.gd_memvault.specs.Memory.{Fails, memory_told, memory_view};
 
@@ -42,6 +43,7 @@ impl Vault for MemVault {
         ensures exists { ExistsWhere name.now result (memory_view self.old) }
         ensures there { IfOk result (λ f. HasFile (memory_view self.new) f.0) }
         ensures fails { Fails (IsFull (memory_told self.old) ⊎ (result ≡ Err CreateError.Exists)) result self.old self.new }
+        ensures idle { IdleWhereStarved self.old self.new }
     {
         if self.find(name.as_str().as_bytes()).is_some() {
             self.next_call();
@@ -116,20 +118,23 @@ impl Vault for MemVault {
         ensures wrote { Wrote (Write f.0 at bytes.now) (length bytes.now) result (memory_view self.old) (memory_view self.new) }
         ensures too_long { 2 ^ 63 ≤ at + length bytes.now → Refused result (memory_view self.old) (memory_view self.new) }
         ensures fails { Fails (IsFull (memory_told self.old) ⊎ (2 ^ 63 ≤ at + length bytes.now)) result self.old self.new }
+        ensures idle { IdleWhereStarved self.old self.new }
     {
+        let part = match Datum::from_slice(self.alloc(), bytes) {
+            Ok(part) => part,
+            Err(_) => return self.starve_next(),
+        };
         if is_too_long(at, bytes.len()) {
-            return self.refuse_next();
+            return self.refuse_next(f, at, part);
         }
-        match Datum::from_slice(self.alloc(), bytes) {
-            Ok(part) => self.write_next(f, at, part),
-            Err(_) => self.starve_next(),
-        }
+        self.write_next(f, at, part)
     }
 
     fn truncate(&mut self, f: FileId) -> Result<(), Failed>
         requires { HasFile (memory_view self.old) f.0 }
         ensures changed { Changed (Truncate f.0) result (memory_view self.old) (memory_view self.new) }
         ensures fails { Fails (IsFull (memory_told self.old)) result self.old self.new }
+        ensures idle { IdleWhereStarved self.old self.new }
     {
         self.change_next(Step::Truncate(f.0))
     }
@@ -139,6 +144,7 @@ impl Vault for MemVault {
         requires src { HasFile (memory_view self.old) src.0 }
         ensures cloned { Cloned (Clone_into dst.0 src.0 stamp) result (memory_view self.old) (memory_view self.new) }
         ensures fails { Fails (IsFull (memory_told self.old)) result self.old self.new }
+        ensures idle { IdleWhereStarved self.old self.new }
     {
         self.clone_next(dst, src, stamp)
     }
@@ -147,6 +153,7 @@ impl Vault for MemVault {
         requires { HasFile (memory_view self.old) f.0 }
         ensures changed { Changed (Set_mode f.0 mode) result (memory_view self.old) (memory_view self.new) }
         ensures fails { Fails (IsFull (memory_told self.old)) result self.old self.new }
+        ensures idle { IdleWhereStarved self.old self.new }
     {
         self.change_next(Step::SetMode(f.0, mode))
     }
@@ -155,6 +162,7 @@ impl Vault for MemVault {
         requires { HasFile (memory_view self.old) f.0 }
         ensures changed { Changed (Sync f.0) result (memory_view self.old) (memory_view self.new) }
         ensures fails { Fails (IsFull (memory_told self.old)) result self.old self.new }
+        ensures idle { IdleWhereStarved self.old self.new }
     {
         self.change_next(Step::Sync(f.0))
     }
@@ -162,6 +170,7 @@ impl Vault for MemVault {
     fn sync_names(&mut self) -> Result<(), Failed>
         ensures changed { Changed Sync_names result (memory_view self.old) (memory_view self.new) }
         ensures fails { Fails (IsFull (memory_told self.old)) result self.old self.new }
+        ensures idle { IdleWhereStarved self.old self.new }
     {
         self.change_next(Step::SyncNames)
     }
@@ -170,6 +179,7 @@ impl Vault for MemVault {
         requires { HasName (memory_view self.old) from.now }
         ensures changed { Changed (Replace from.now to.now) result (memory_view self.old) (memory_view self.new) }
         ensures fails { Fails (IsFull (memory_told self.old)) result self.old self.new }
+        ensures idle { IdleWhereStarved self.old self.new }
     {
         let from = match Datum::from_slice(self.alloc(), from.as_str().as_bytes()) {
             Ok(from) => from,
@@ -184,6 +194,7 @@ impl Vault for MemVault {
     fn remove(&mut self, name: &Name) -> Result<(), Failed>
         ensures changed { Changed (Remove name.now) result (memory_view self.old) (memory_view self.new) }
         ensures fails { Fails (IsFull (memory_told self.old)) result self.old self.new }
+        ensures idle { IdleWhereStarved self.old self.new }
     {
         match Datum::from_slice(self.alloc(), name.as_str().as_bytes()) {
             Ok(name) => self.change_next(Step::Remove(name)),

@@ -1,6 +1,9 @@
-use Rattle.std.proofs.Common.{◌≡◌, true, false, inr}
+use Rattle.std.proofs.Common.{◌≡◌, true, false, inr, refl}
 use Rattle.gd_memvault.specs.Disk.{call_of, disk_content}
-use Rattle.gd_memvault.proofs.Logs.{adds_none, full_moments, may_stay}
+use Rattle.gd_vault.specs.Views.Told.{Records}
+use Rattle.gd_memvault.specs.Log.{events_of}
+use Rattle.gd_memvault.proofs.Idles.{none_not_idle}
+use Rattle.gd_memvault.proofs.Logs.{adds_none, full_moments}
 use Rattle.gd_memvault.proofs.changes.change_log.Goals as goal
 
 pub returns-then-not-has_room-clause-told : goal.returns-then-not-has_room-clause-told
@@ -9,5 +12,7 @@ returns-then-not-has_room-clause-told c = adds_none (call_of c.args.step) (disk_
 pub returns-then-not-has_room-clause-failed : goal.returns-then-not-has_room-clause-failed
 returns-then-not-has_room-clause-failed c = λ _. inr (full_moments (disk_content c.args.first.now) c.args.log.now (λ room. (let h = c.if-not-has_room.ensures in let wrong : false ≡ true = h.1 room in cc)))
 
-pub keep-requires-clause-effect : goal.keep-requires-clause-effect
-keep-requires-clause-effect c = may_stay (call_of c.args.step) _ c.in-Ok.next c.latest.result.now c.latest.ensures c.in-Ok.ensures
+pub returns-then-not-has_room-clause-idle : goal.returns-then-not-has_room-clause-idle
+returns-then-not-has_room-clause-idle c =
+    let told = Records (disk_content c.args.first.now) (events_of (disk_content c.args.first.now) c.args.log.now) in
+    none_not_idle told told refl
