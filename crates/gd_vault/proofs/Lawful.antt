@@ -34,7 +34,7 @@ torn_by_write at bytes x y e = (subst (Torn at (length bytes) x.bytes) (sym (ap 
 stays : (c d : Content) (f : ℕ) (x y : File) → d.files f ≡ c.files f → c.files f ≡ Some x → d.files f ≡ Some y → y ≡ x
 stays c d f x y same is now = cc
 
-unfinished : (ok : Bool) (call : Call) (c d : Content) → DoesOrMayDo ok call c d → (f : ℕ) (x y : File) → file_of call ≡ Some f → c.files f ≡ Some x → d.files f ≡ Some y → Unfinished call x y
+pub unfinished : (ok : Bool) (call : Call) (c d : Content) → DoesOrMayDo ok call c d → (f : ℕ) (x y : File) → file_of call ≡ Some f → c.files f ≡ Some x → d.files f ≡ Some y → Unfinished call x y
 unfinished ok (Create name mode) c d h f x y e is now = cc
 unfinished true (Write g at bytes) c d h f x y e is now = torn_by_write at bytes x y (by_change g f (Finished c (Write g at bytes)) c d x y h e is now)
 unfinished false (Write g at bytes) c d h f x y e is now = by_change g f (Unfinished (Write g at bytes)) c d x y h e is now
@@ -89,7 +89,7 @@ there : (d : Content) (id : ℕ) (y : File) → d.files id ≡ Some y → d.file
 there d id y is gone = (let wrong : Some y ≡ None = sym is ∙ gone in cc)
 
 -- a file that was there is there
-stays_there : (ok : Bool) (call : Call) (c d : Content) → DoesOrMayDo ok call c d → (id : ℕ) → c.files id ≢ None → d.files id ≢ None
+pub stays_there : (ok : Bool) (call : Call) (c d : Content) → DoesOrMayDo ok call c d → (id : ℕ) → c.files id ≢ None → d.files id ≢ None
 stays_there ok call c d h id was = let x = some_of (c.files id) was in let y = has_after ok call c d h id x in there d id y.0 y.1
 
 proper_does : (call : Call) (c d : Content) → Does call c d → IsProper c → IsProper d

@@ -1,3 +1,4 @@
+pub mod AfterLeft
 pub mod Content
 pub mod Files
 pub mod FrameLeft

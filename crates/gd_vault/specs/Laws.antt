@@ -1,7 +1,8 @@
 -- The laws of a history and of frames.
-use Rattle.std.specs.Prelude.{◌≡◌, ◌↔◌, ◌≤◌, ℕ, Bool, IsTrue, List, ◌++◌}
+use Rattle.std.specs.Prelude.{◌≡◌, ◌≢◌, ◌↔◌, ◌+◌, ◌≤◌, ℕ, Bool, IsTrue, List, ◌∷◌, ◌++◌, Some, None}
 use Rattle.gd_vault.specs.Content.{Content}
 use Rattle.gd_vault.specs.Events.{Event, Call, content_after, moment_after}
+use Rattle.gd_vault.specs.Effects.{file_of}
 use Rattle.gd_vault.specs.History.{was, left, LeavesSince}
 use Rattle.gd_vault.specs.Views.{Told, View}
 use Rattle.gd_vault.specs.Views.Told.{Records}
@@ -28,6 +29,14 @@ ReadsNow = (first : Content) (es : List Event) → was first es (moment_after es
 -- a crash may leave what the vault was
 abbrev pub WasIsLeft : Type 0
 WasIsLeft = (first : Content) (es : List Event) → IsLawful first es → (t : ℕ) → t ≤ moment_after es → left first es t (was first es t)
+
+-- the file that the call names, if any, is there
+abbrev pub HasItsFile : Content → Call → Type 0
+HasItsFile c call = (f : ℕ) → file_of call ≡ Some f → c.files f ≢ None
+
+-- inside a call a crash may leave what the call makes, whether it succeeds or fails
+abbrev pub AfterIsLeft : Type 0
+AfterIsLeft = (first : Content) (es : List Event) (e : Event) → IsLawful first (e ∷ es) → HasItsFile (content_after first es) e.call → left first (e ∷ es) (moment_after es + 1) e.after
 
 -- the files and names that two tests tell
 abbrev pub Inside : (ℕ → Bool) → (List ℕ → Bool) → View → View → Type 0

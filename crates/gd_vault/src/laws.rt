@@ -1,6 +1,6 @@
 //! Laws of what a vault has been, of what a crash may leave, and of what calls leave alone. No program calls these.
 
-ghost use Rattle.gd_vault.specs.Laws.{CallsAdd, FrameImages, FrameReads, FrameReflexive, FrameTransitive, PastStays, ReadsNow, WasIsLeft};
+ghost use Rattle.gd_vault.specs.Laws.{AfterIsLeft, CallsAdd, FrameImages, FrameReads, FrameReflexive, FrameTransitive, PastStays, ReadsNow, WasIsLeft};
 
 /// What a vault was at a moment, and what a crash may leave of it, never changes.
 pub fn past_stays()
@@ -20,6 +20,11 @@ pub fn reads_now()
 /// At each moment a crash may leave what the vault was; so what it reads now is an image of the present moment.
 pub fn was_is_left()
     ensures { WasIsLeft }
+{}
+
+/// At the moment inside a call a crash may also leave what the vault is after the call.
+pub fn after_is_left()
+    ensures { AfterIsLeft }
 {}
 
 /// Nothing done lies in each frame.

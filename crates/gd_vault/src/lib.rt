@@ -7,8 +7,8 @@ mod vault_source;
 mod vaults;
 
 pub use laws::{
-    calls_add, frame_images, frame_reads, frame_reflexive, frame_transitive, past_stays, reads_now,
-    was_is_left,
+    after_is_left, calls_add, frame_images, frame_reads, frame_reflexive, frame_transitive,
+    past_stays, reads_now, was_is_left,
 };
 pub use vault_sink::VaultSink;
 pub use vault_source::VaultSource;
