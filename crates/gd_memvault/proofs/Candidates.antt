@@ -11,8 +11,8 @@ use Rattle.gd_vault.specs.Changes.{event}
 use Rattle.gd_vault.specs.History.{IsProper, LeftAfter, LeftInside, MayName, NameLeft, left}
 use Rattle.gd_vault.specs.Lawful.{IsLawful}
 use Rattle.gd_vault.specs.Stay.{has_after}
-use Rattle.gd_vault.proofs.Lawful.{proper}
-use Rattle.gd_memvault.proofs.Staying.{names_synced, stays_there}
+use Rattle.gd_vault.proofs.Lawful.{proper, stays_there}
+use Rattle.gd_vault.proofs.Left.{names_synced}
 use Rattle.gd_vault.proofs.FrameLeft.{past_left}
 use Rattle.gd_memvault.specs.DiskData.{DiskData}
 use Rattle.gd_memvault.specs.LogData.{LogData}

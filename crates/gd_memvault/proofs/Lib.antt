@@ -7,4 +7,3 @@ pub mod Names
 pub mod Ranges
 pub mod Running
 pub mod Sounds
-pub mod Staying

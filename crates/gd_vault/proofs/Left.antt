@@ -74,7 +74,7 @@ named c (Remove name) n z h = h.0
 named c Idle n z h = h
 
 -- a names' sync that succeeded, or none
-names_synced : (call : Call) (ok : Bool) → ((call ≡ Sync_names) × (ok ≡ true)) ⊎ (call ≡ Sync_names → ok ≡ false)
+pub names_synced : (call : Call) (ok : Bool) → ((call ≡ Sync_names) × (ok ≡ true)) ⊎ (call ≡ Sync_names → ok ≡ false)
 names_synced (Create name mode) ok = inr (λ e. cc)
 names_synced (Write f at bytes) ok = inr (λ e. cc)
 names_synced (Truncate f) ok = inr (λ e. cc)
