@@ -1,5 +1,5 @@
 -- What a changing call does to what contracts see of a vault.
-use Rattle.std.specs.Prelude.{◌≡◌, ◌≢◌, ◌⊎◌, ◌↔◌, ℕ, ◌+◌, ◌-◌, ◌^◌, ◌<◌, ◌≤◌, min, Bool, true, false, List, ◌∷◌, Some, None, Result, Ok, Err, is_ok, IsErr, IsErrOf}
+use Rattle.std.specs.Prelude.{◌≡◌, ◌≢◌, ◌⊎◌, ◌↔◌, ℕ, ◌+◌, ◌-◌, ◌^◌, ◌<◌, ◌≤◌, max, min, Bool, true, false, List, ◌∷◌, Some, None, Result, Ok, Err, is_ok, IsErr, IsErrOf}
 use Rattle.gd_base.specs.Causes.{HasCause}
 use Rattle.gd_vault.specs.declared.vaults.Mode.{Mode}
 use Rattle.gd_vault.specs.declared.vaults.FileId.{FileId}
@@ -51,7 +51,7 @@ pub record Changed {T E : Type 0} (call : Call) (result : Result T E) (old new :
 -- a count that a success raises by n, and a failure by at most n; it stays at the last value of a u64
 abbrev pub Raised : Bool → ℕ → ℕ → ℕ → Type 0
 Raised true n old new = new ≡ min (old + n) (2 ^ 64 - 1)
-Raised false n old new = (old ≤ new) × (new ≤ old + n)
+Raised false n old new = (old ≤ new) × (new ≤ max old (min (old + n) (2 ^ 64 - 1)))
 
 -- a write of so many bytes
 pub record Wrote {T E : Type 0} (call : Call) (size : ℕ) (result : Result T E) (old new : View) : Type 0 where
