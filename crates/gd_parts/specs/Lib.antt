@@ -1,0 +1,5 @@
+pub mod Parts
+pub mod Cover
+pub mod Points
+pub mod Frame
+pub mod Sizes
