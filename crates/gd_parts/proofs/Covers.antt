@@ -8,7 +8,8 @@ use Rattle.gd_format.specs.declared.Extent.{Extent}
 use Rattle.gd_format.specs.declared.Held.{Held}
 use Rattle.gd_format.specs.Sound.{meets, meets_none, meet_fault}
 use Rattle.gd_format.proofs.Firsts.{and-true, both_true, or_else-none, or_else_both, unless-none, unless_true}
-use Rattle.gd_parts.specs.Cover.{has_byte, cover, IsOnce, extents_in, EndBy, AreLarge, is_empty_inside, NoneInside}
+use Rattle.gd_parts.specs.Cover.{IsOnce, extents_in, EndBy, AreLarge, is_empty_inside, NoneInside}
+use Rattle.gd_format.specs.Covers.{has_byte, cover}
 
 pub bool_cases : (b : Bool) {P : Type 0} → (b ≡ true → P) → (b ≡ false → P) → P
 bool_cases true p q = p refl

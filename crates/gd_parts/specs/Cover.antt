@@ -1,17 +1,10 @@
 -- Extents that meet none of each other, by their bytes.
-use Rattle.std.specs.Prelude.{◌≡◌, ℕ, ◌+◌, ◌<◌, ◌≤◌, ◌↔◌, Bool, false, ◌&&◌, ◌==◌, nat_lt, nat_le, List, [], ◌∷◌, ◌++◌, map, None, if◌then◌else◌}
+use Rattle.std.specs.Prelude.{◌≡◌, ℕ, ◌+◌, ◌<◌, ◌≤◌, ◌↔◌, Bool, false, ◌&&◌, ◌==◌, nat_lt, List, [], ◌∷◌, ◌++◌, map, None}
 use Rattle.std.specs.List.{AllByRecursion}
 use Rattle.gd_format.specs.declared.Extent.{Extent}
 use Rattle.gd_format.specs.declared.Held.{Held}
+use Rattle.gd_format.specs.Covers.{cover}
 use Rattle.gd_format.specs.Sound.{meet_fault}
-
-abbrev pub has_byte : Extent → ℕ → Bool
-has_byte e b = nat_le e.at b && nat_lt b (e.at + e.size)
-
--- how many of the extents have a byte
-abbrev pub cover : List Extent → ℕ → ℕ
-cover [] b = 0
-cover (e ∷ es) b = (if has_byte e b then 1 else 0) + cover es b
 
 -- each byte is in one of the extents at most
 abbrev pub IsOnce : List Extent → Type 0

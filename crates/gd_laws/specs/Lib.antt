@@ -1,0 +1,12 @@
+pub mod Lookup
+pub mod Slots
+pub mod Update
+pub mod Space
+pub mod Frame
+pub mod Split
+pub mod Overflow
+pub mod Store
+pub mod Find
+pub mod SplitSpace
+pub mod Maps
+pub mod Side

@@ -1,0 +1,116 @@
+//! Laws over the bytes of a file on which a database rests: look-up, a change of one bucket, space, splits.
+#![tactic(auto)]
+
+ghost use Rattle.gd_laws.specs.Find.{AbsentByProbes, PresentBySlot, SetSlots, GiveTake, GrownIsExtent};
+ghost use Rattle.gd_laws.specs.Frame.{StaysLaw, KeepsJoin, WriteKeeps, StaysAsideLaw};
+ghost use Rattle.gd_laws.specs.Lookup.{LookupExact, RecordsOnce};
+ghost use Rattle.gd_laws.specs.Maps.{MapsByLookup, SameMaps, MapWith, MapWithout};
+ghost use Rattle.gd_laws.specs.Overflow.{OverflowLaw, FullIsClose, OthersAreNotClose, CloseStays, FullHasBits};
+ghost use Rattle.gd_laws.specs.Side.{SideKept};
+ghost use Rattle.gd_laws.specs.Slots.{SlotsOfBucket, BucketOfSlots};
+ghost use Rattle.gd_laws.specs.Space.{SpaceLaw};
+ghost use Rattle.gd_laws.specs.Split.{SplitLaw, DoubleLaw};
+ghost use Rattle.gd_laws.specs.SplitSpace.{SplitSpaceLaw, DoubleSpaceLaw};
+ghost use Rattle.gd_laws.specs.Store.{StoreLaw, DeleteLaw};
+ghost use Rattle.gd_laws.specs.Update.{SlotsLaw, FileLaw, OneKeyLaw};
+
+/// A look-up among the records is one through hash, directory and bucket.
+pub fn lookup_is_exact()
+    ensures exact { LookupExact }
+    ensures once { RecordsOnce }
+{}
+
+/// A bucket is right exactly where its slots are.
+pub fn buckets_by_slots()
+    ensures of_bucket { SlotsOfBucket }
+    ensures of_slots { BucketOfSlots }
+{}
+
+/// What a change of the slots of one bucket makes of it and of its map.
+pub fn slots_change()
+    ensures { SlotsLaw }
+{}
+
+/// What a change of one bucket makes of a file.
+pub fn file_change()
+    ensures { FileLaw }
+{}
+
+/// A store without a split, and a deletion.
+pub fn one_key_changes()
+    ensures { OneKeyLaw }
+{}
+
+/// What a change of one bucket makes of the space of a file.
+pub fn space_change()
+    ensures { SpaceLaw }
+{}
+
+/// What stays in a file, and which changes keep it.
+pub fn what_stays()
+    ensures stays { StaysLaw }
+    ensures join { KeepsJoin }
+    ensures write { WriteKeeps }
+{}
+
+/// A split keeps the map.
+pub fn split_keeps()
+    ensures split { SplitLaw }
+    ensures double { DoubleLaw }
+{}
+
+/// When a bucket overflows.
+pub fn overflow_shows()
+    ensures law { OverflowLaw }
+    ensures full { FullIsClose }
+    ensures others { OthersAreNotClose }
+    ensures stays { CloseStays }
+    ensures bits { FullHasBits }
+{}
+
+/// A store without a split.
+pub fn store_keeps_sound()
+    ensures { StoreLaw }
+{}
+
+/// What probing tells, and steps that a store joins.
+pub fn steps_of_store()
+    ensures absent { AbsentByProbes }
+    ensures present { PresentBySlot }
+    ensures set { SetSlots }
+    ensures space { GiveTake }
+    ensures grown { GrownIsExtent }
+{}
+
+/// What a split makes of the space of a file.
+pub fn split_space()
+    ensures { SplitSpaceLaw }
+{}
+
+/// What stays where the directory is written too.
+pub fn what_stays_aside()
+    ensures { StaysAsideLaw }
+{}
+
+/// Maps by their look-ups.
+pub fn maps_by_lookup()
+    ensures by_lookup { MapsByLookup }
+    ensures same { SameMaps }
+    ensures with { MapWith }
+    ensures without { MapWithout }
+{}
+
+/// A deletion.
+pub fn delete_keeps_sound()
+    ensures { DeleteLaw }
+{}
+
+/// Writes aside of the free side keep it.
+pub fn side_is_kept()
+    ensures { SideKept }
+{}
+
+/// What a doubling makes of the space of a file.
+pub fn double_space()
+    ensures { DoubleSpaceLaw }
+{}
