@@ -5,8 +5,6 @@ use Rattle.std.proofs.lemmas.Bool.Decides.{nat_tests}
 use Rattle.std.proofs.lemmas.Nat.{mod_below}
 use Rattle.std.proofs.Math.Nat.{mod-eq_of_lt, add-mul-mod_self_left}
 use Rattle.std.proofs.lemmas.Slice.Eq.{bytes_eq-Decides}
-use Rattle.gd_format.specs.declared.Extent.{Extent}
-use Rattle.gd_format.specs.declared.Header.{Header}
 use Rattle.gd_format.specs.declared.Slot.{Slot}
 use Rattle.gd_format.specs.declared.Slot.TheVariants.{Empty, Full}
 use Rattle.gd_format.specs.First.{all_below}
@@ -15,20 +13,17 @@ use Rattle.gd_format.specs.Field.{bytes_at}
 use Rattle.gd_format.proofs.Firsts.{all_below-at}
 use Rattle.gd_format.specs.Slots.{count, is_full, hash_in, is_full_from, is_reached_in}
 use Rattle.gd_format.specs.Sound.{extent}
-use Rattle.gd_format.specs.Covers.{has_byte, cover}
+use Rattle.gd_format.specs.Covers.{cover}
 use Rattle.gd_parts.proofs.Lists.{bool_cases}
 use Rattle.gd_laws.specs.Lookup.{lookup, has_key, slot_records}
 use Rattle.gd_laws.specs.Slots.{is_good, is_bad, AreSlotsRight}
-use Rattle.gd_laws.specs.Space.{one_if, slot_has, free_of, grown}
-use Rattle.gd_laws.specs.Frame.{KeepsBut}
-use Rattle.gd_laws.specs.Store.{SpaceMoves}
+use Rattle.gd_laws.specs.Space.{grown}
 use Rattle.gd_laws.specs.Find.{is_slot_of, probe}
 use Rattle.gd_laws.proofs.Lists.{lookup-none}
 use Rattle.gd_laws.proofs.Slots.{not_false}
 use Rattle.gd_laws.proofs.Update.{count_records, slot_test, lookup_finds, has_pair}
 use Rattle.gd_laws.proofs.Overflow.{good_hash}
-use Rattle.gd_laws.proofs.Stays.{keeps_join}
-use Rattle.gd_laws.proofs.Store.{grown-none}
+use Rattle.gd_laws.proofs.Change.{grown-none}
 
 pub count_some : {X : Type 0} (p : X → Bool) (xs : List X) (d : X) → 0 < count p xs → (s : ℕ) × (s < length xs) × (p (get_or xs s d) ≡ true)
 count_some p [] d h = absurd (omega arith)
@@ -134,7 +129,7 @@ grown-one a b x le lt = let e : (leb a x && ltb x b) ≡ true = grind (arith, na
 grown-past : (a b x : ℕ) → b ≤ x → grown a b x ≡ 0
 grown-past a b x le = let e : (leb a x && ltb x b) ≡ false = grind (arith, nat_tests) in rw e refl
 
-grown-add : (a b c x : ℕ) → a ≤ b → b ≤ c → grown a b x + grown b c x ≡ grown a c x
+pub grown-add : (a b c x : ℕ) → a ≤ b → b ≤ c → grown a b x + grown b c x ≡ grown a c x
 grown-add a b c x p q =
     elim (cases_lt x a) [
       | inl below ↦ let l = grown-none a b x below in let m = grown-none b c x (omega arith) in let n = grown-none a c x below in omega (arith, l, m, n)
@@ -146,18 +141,6 @@ grown-add a b c x p q =
         ]
       ]
     ]
-
-pub give_take : (old mid new : List ℕ) (h : Header) (i : ℕ) (gone : List Slot) (at size next next' next'' : ℕ) (pool pool' pool'' free' free'' : List Extent) → length old ≤ next → KeepsBut (λ b. cover pool b + cover (free_of old h i) b + count (slot_has b) gone) old mid → ((b : ℕ) → cover pool' b + cover free' b ≤ cover pool b + cover (free_of old h i) b + count (slot_has b) gone + grown next next' b) → KeepsBut (λ b. cover pool' b + cover free' b) mid new → ((b : ℕ) → cover pool'' b + cover free'' b + one_if (has_byte (extent at size) b) ≤ cover pool' b + cover free' b + grown next' next'' b) → next ≤ next' → next' ≤ next'' → at + size ≤ next'' → length new ≤ next'' → SpaceMoves old new h i gone at size next next'' pool pool'' free''
-give_take old mid new h i gone at size next next' next'' pool pool' pool'' free' free'' short k0 m0 k1 m1 g0 g1 ends long =
-    record {
-      keeps =
-          keeps_join (λ b. cover pool b + cover (free_of old h i) b + count (slot_has b) gone) (λ b. cover pool' b + cover free' b) (λ b. cover pool b + cover (free_of old h i) b + count (slot_has b) gone) old mid new
-          (λ x lt z. let m = m0 x in let g = grown-none next next' x (omega arith) in (z, omega (arith, z, m, g))) k0 k1;
-      short = long;
-      grows = omega arith;
-      ends = ends;
-      moves = λ b. let a = m0 b in let c = m1 b in let g = grown-add next next' next'' b g0 g1 in omega (arith, a, c, g);
-    }
 
 pub grown_is_extent : (next next' b : ℕ) → next ≤ next' → cover (extent next (next' - next) ∷ []) b ≡ grown next next' b
 grown_is_extent next next' b le =

@@ -7,13 +7,14 @@ pub mod OneKey
 pub mod Space
 pub mod Stays
 pub mod Put
-pub mod Store
-pub mod Delete
+pub mod Change
 pub mod Find
 pub mod SplitSpace
 pub mod Aside
 pub mod Maps
 pub mod Side
+pub mod Sounds
+pub mod Whole
 pub mod DoubleSpace
 pub mod Split
 pub mod Double

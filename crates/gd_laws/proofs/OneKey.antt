@@ -52,7 +52,7 @@ or_none : {E : Type 0} (x : Option E) → or_else x None ≡ x
 or_none None = refl
 or_none (Some v) = refl
 
-entry_cases : (x y : ℤ) {P : Type 0} → (x ≡ y → P) → (x ≢ y → P) → P
+pub entry_cases : (x y : ℤ) {P : Type 0} → (x ≡ y → P) → (x ≢ y → P) → P
 entry_cases x y p q =
     bool_cases (int_eq x y)
     (λ t. p ((Decides-int_eq x y).0 t))

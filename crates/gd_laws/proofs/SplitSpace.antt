@@ -17,9 +17,9 @@ use Rattle.gd_format.specs.Covers.{has_byte, cover}
 use Rattle.gd_parts.specs.Parts.{HasParts}
 use Rattle.gd_parts.proofs.Lists.{bool_cases}
 use Rattle.gd_parts.proofs.Walk.{same_start, first_tells}
-use Rattle.gd_laws.specs.Space.{one_if, slot_has, block_has, free_of, bucket_cover, sum_of, all_cover, grown, IsSpaceRight}
+use Rattle.gd_laws.specs.Space.{one_if, slot_has, block_has, free_of, bucket_cover, sum_of, all_cover, grown, IsSpaceRight, free_in}
 use Rattle.gd_laws.specs.Split.{SplitChange}
-use Rattle.gd_laws.specs.SplitSpace.{free_in, SplitMoves}
+use Rattle.gd_laws.specs.SplitSpace.{SplitMoves}
 use Rattle.gd_laws.proofs.Lookup.{first_of_entry}
 use Rattle.gd_laws.proofs.Space.{sum_same, sum_change, grown-le, grown-some}
 use Rattle.gd_laws.proofs.Split.{classify, low_old, high_old, other_new, low_new, other_block, low_block, high_block, in_run, both_counts}

@@ -1,20 +1,16 @@
 -- A look-up in a bucket by probing, and what changes of slots keep.
 use Rattle.std.specs.Prelude.{◌≡◌, ℕ, ◌+◌, ◌-◌, ◌%◌, ◌<◌, ◌≤◌, ◌⊎◌, Bool, false, List, [], ◌∷◌, length, get_or, set, Some, None}
 use Rattle.std.specs.Str.{bytes_eq}
-use Rattle.gd_format.specs.declared.Extent.{Extent}
-use Rattle.gd_format.specs.declared.Header.{Header}
 use Rattle.gd_format.specs.declared.Slot.{Slot}
 use Rattle.gd_format.specs.declared.Slot.TheVariants.{Empty, Full}
 use Rattle.gd_format.specs.Hash.{hash_of}
 use Rattle.gd_format.specs.Field.{bytes_at}
-use Rattle.gd_format.specs.Slots.{count, is_full, SameSlots}
+use Rattle.gd_format.specs.Slots.{is_full, SameSlots}
 use Rattle.gd_format.specs.Sound.{extent}
-use Rattle.gd_format.specs.Covers.{has_byte, cover}
+use Rattle.gd_format.specs.Covers.{cover}
 use Rattle.gd_laws.specs.Lookup.{lookup, slot_records}
 use Rattle.gd_laws.specs.Slots.{AreSlotsRight}
-use Rattle.gd_laws.specs.Space.{one_if, slot_has, free_of, grown}
-use Rattle.gd_laws.specs.Frame.{KeepsBut}
-use Rattle.gd_laws.specs.Store.{SpaceMoves}
+use Rattle.gd_laws.specs.Space.{grown}
 
 abbrev pub is_slot_of : List ℕ → List ℕ → Slot → Bool
 is_slot_of file key Empty = false
@@ -42,18 +38,10 @@ PresentBySlot =
 abbrev pub SetSlots : Type 0
 SetSlots = (slots : List Slot) (s : ℕ) (slot : Slot) → s < length slots → SameSlots (get_or slots s Empty ∷ set slots s slot) (slot ∷ slots)
 
--- a give and then a take
-abbrev pub GiveTake : Type 0
-GiveTake =
-    (old mid new : List ℕ) (h : Header) (i : ℕ) (gone : List Slot) (at size next next' next'' : ℕ) (pool pool' pool'' free' free'' : List Extent)
-    → length old ≤ next
-    → KeepsBut (λ b. cover pool b + cover (free_of old h i) b + count (slot_has b) gone) old mid
-    → ((b : ℕ) → cover pool' b + cover free' b ≤ cover pool b + cover (free_of old h i) b + count (slot_has b) gone + grown next next' b)
-    → KeepsBut (λ b. cover pool' b + cover free' b) mid new
-    → ((b : ℕ) → cover pool'' b + cover free'' b + one_if (has_byte (extent at size) b) ≤ cover pool' b + cover free' b + grown next' next'' b)
-    → next ≤ next' → next' ≤ next'' → at + size ≤ next'' → length new ≤ next''
-    → SpaceMoves old new h i gone at size next next'' pool pool'' free''
-
 -- growth as an extent
 abbrev pub GrownIsExtent : Type 0
 GrownIsExtent = (next next' b : ℕ) → next ≤ next' → cover (extent next (next' - next) ∷ []) b ≡ grown next next' b
+
+-- growth by steps
+abbrev pub GrownAdds : Type 0
+GrownAdds = (next next' next'' b : ℕ) → next ≤ next' → next' ≤ next'' → grown next next' b + grown next' next'' b ≡ grown next next'' b

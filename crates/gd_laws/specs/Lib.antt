@@ -5,8 +5,10 @@ pub mod Space
 pub mod Frame
 pub mod Split
 pub mod Overflow
-pub mod Store
+pub mod Change
 pub mod Find
 pub mod SplitSpace
 pub mod Maps
 pub mod Side
+pub mod Sounds
+pub mod Whole

@@ -9,8 +9,9 @@ use Rattle.gd_format.specs.Hash.{hash_of}
 use Rattle.gd_format.specs.Field.{bytes_at}
 use Rattle.gd_format.specs.Bucket.{slots_at}
 use Rattle.gd_format.specs.Slots.{count}
-use Rattle.gd_format.specs.HeaderFault.{header_of}
-use Rattle.gd_format.specs.File.{IsReadable, front_of, block_of, records}
+use Rattle.gd_format.specs.HeaderFault.{}
+use Rattle.gd_format.specs.File.{IsReadable, block_of, records}
+use Rattle.gd_parts.specs.Parts.{file_header}
 
 -- the value of the first pair with the key
 abbrev pub lookup : List ℕ → List (List ℕ × List ℕ) → Option (List ℕ)
@@ -45,7 +46,7 @@ abbrev pub map_of : List ℕ → List ℕ → Option (List ℕ)
 map_of file key = lookup key (records file)
 
 abbrev pub LookupExact : Type 0
-LookupExact = (file : List ℕ) → IsReadable file → (key : List ℕ) → map_of file key ≡ value_at file (header_of (front_of file)) key
+LookupExact = (file : List ℕ) → IsReadable file → (key : List ℕ) → map_of file key ≡ value_at file (file_header file) key
 
 abbrev pub RecordsOnce : Type 0
 RecordsOnce = (file : List ℕ) → IsReadable file → AreKeysOnce (records file)

@@ -5,9 +5,10 @@ use Rattle.gd_format.specs.declared.Slot.{Slot}
 use Rattle.gd_format.specs.declared.Slot.TheVariants.{Empty, Full}
 use Rattle.gd_format.specs.Hash.{hash_of}
 use Rattle.gd_format.specs.Bucket.{slots_at}
-use Rattle.gd_format.specs.HeaderFault.{header_of}
-use Rattle.gd_format.specs.File.{IsReadable, front_of, block_of, records}
+use Rattle.gd_format.specs.HeaderFault.{}
+use Rattle.gd_format.specs.File.{IsReadable, block_of, records}
 use Rattle.gd_format.specs.Slots.{count, is_full, SameSlots}
+use Rattle.gd_parts.specs.Parts.{file_header}
 use Rattle.gd_laws.specs.Lookup.{index_of, map_of}
 use Rattle.gd_laws.specs.Slots.{is_bad}
 
@@ -31,8 +32,8 @@ is_close hash (Full other start at k v) = have_top 24 other hash
 abbrev pub OverflowLaw : Type 0
 OverflowLaw =
     (file : List ℕ) → IsReadable file → (key : List ℕ) → map_of file key ≡ None
-    → IsOverflow (records file) (header_of (front_of file)).elems key
-    ↔ (count (is_close (hash_of key)) (slots_at (block_of file (header_of (front_of file)) (index_of (header_of (front_of file)) key)) (header_of (front_of file)).elems) ≡ (header_of (front_of file)).elems)
+    → IsOverflow (records file) (file_header file).elems key
+    ↔ (count (is_close (hash_of key)) (slots_at (block_of file (file_header file) (index_of (file_header file) key)) (file_header file).elems) ≡ (file_header file).elems)
 
 -- a full bucket of 24 bits is one of close slots; and slots under other top bits are not close
 abbrev pub FullIsClose : Type 0

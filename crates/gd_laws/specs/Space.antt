@@ -18,7 +18,11 @@ slot_has b (Full hash start at k v) = has_byte (extent at (k + v)) b
 abbrev pub one_if : Bool → ℕ
 one_if holds = if holds then 1 else 0
 
--- the free extents of the bucket of an entry
+-- the free extents of a bucket, by its block
+abbrev pub free_in : List ℕ → List Extent
+free_in block = free_at block (natural (counts_at block).free)
+
+-- those of the bucket of an entry
 unfoldable pub free_of : List ℕ → Header → ℕ → List Extent
 free_of file h i = let block = block_of file h i in free_at block (natural (counts_at block).free)
 

@@ -4,16 +4,12 @@ use Rattle.gd_format.specs.declared.Header.{Header}
 use Rattle.gd_format.specs.declared.Extent.{Extent}
 use Rattle.gd_format.specs.Field.{bytes_at}
 use Rattle.gd_format.specs.HeaderFault.{natural}
-use Rattle.gd_format.specs.Bucket.{counts_at, free_at}
 use Rattle.gd_format.specs.File.{entry_at, entries_of}
 use Rattle.gd_format.specs.Sound.{extent}
 use Rattle.gd_format.specs.Covers.{has_byte, cover}
 use Rattle.gd_parts.specs.Parts.{HasParts}
-use Rattle.gd_laws.specs.Space.{one_if, free_of, grown, IsSpaceRight}
+use Rattle.gd_laws.specs.Space.{free_in, one_if, free_of, grown, IsSpaceRight}
 use Rattle.gd_laws.specs.Split.{SplitChange, DoubleChange}
-
-abbrev pub free_in : List ℕ → List Extent
-free_in block = free_at block (natural (counts_at block).free)
 
 -- the second bucket's block is taken from the space
 pub record SplitMoves (old new : List ℕ) (h : Header) (i at next next' : ℕ) (pool pool' : List Extent) : Type 0 where

@@ -1,18 +1,20 @@
 //! Laws over the bytes of a file on which a database rests: look-up, a change of one bucket, space, splits.
 #![tactic(auto)]
 
-ghost use Rattle.gd_laws.specs.Find.{AbsentByProbes, PresentBySlot, SetSlots, GiveTake, GrownIsExtent};
+ghost use Rattle.gd_laws.specs.Change.{DeleteLaw, KeyLaw, StoreLaw};
+ghost use Rattle.gd_laws.specs.Find.{AbsentByProbes, PresentBySlot, SetSlots, GrownAdds, GrownIsExtent};
 ghost use Rattle.gd_laws.specs.Frame.{StaysLaw, KeepsJoin, WriteKeeps, StaysAsideLaw};
 ghost use Rattle.gd_laws.specs.Lookup.{LookupExact, RecordsOnce};
 ghost use Rattle.gd_laws.specs.Maps.{MapsByLookup, SameMaps, MapWith, MapWithout};
 ghost use Rattle.gd_laws.specs.Overflow.{OverflowLaw, FullIsClose, OthersAreNotClose, CloseStays, FullHasBits};
 ghost use Rattle.gd_laws.specs.Side.{SideKept};
 ghost use Rattle.gd_laws.specs.Slots.{SlotsOfBucket, BucketOfSlots};
+ghost use Rattle.gd_laws.specs.Sounds.{BelowIsAvail, BelowIsRight, BlocksMakeSound, CoverOfExtents, SoundHasBlocks, SoundHasSide};
 ghost use Rattle.gd_laws.specs.Space.{SpaceLaw};
 ghost use Rattle.gd_laws.specs.Split.{SplitLaw, DoubleLaw};
 ghost use Rattle.gd_laws.specs.SplitSpace.{SplitSpaceLaw, DoubleSpaceLaw};
-ghost use Rattle.gd_laws.specs.Store.{StoreLaw, DeleteLaw};
 ghost use Rattle.gd_laws.specs.Update.{SlotsLaw, FileLaw, OneKeyLaw};
+ghost use Rattle.gd_laws.specs.Whole.{DeleteKeepsSound, StoreKeepsSound};
 
 /// A look-up among the records is one through hash, directory and bucket.
 pub fn lookup_is_exact()
@@ -68,9 +70,11 @@ pub fn overflow_shows()
     ensures bits { FullHasBits }
 {}
 
-/// A store without a split.
-pub fn store_keeps_sound()
-    ensures { StoreLaw }
+/// A store without a split, and a deletion, by what they write.
+pub fn key_changes()
+    ensures key { KeyLaw }
+    ensures store { StoreLaw }
+    ensures delete { DeleteLaw }
 {}
 
 /// What probing tells, and steps that a store joins.
@@ -78,8 +82,8 @@ pub fn steps_of_store()
     ensures absent { AbsentByProbes }
     ensures present { PresentBySlot }
     ensures set { SetSlots }
-    ensures space { GiveTake }
     ensures grown { GrownIsExtent }
+    ensures adds { GrownAdds }
 {}
 
 /// What a split makes of the space of a file.
@@ -100,11 +104,6 @@ pub fn maps_by_lookup()
     ensures without { MapWithout }
 {}
 
-/// A deletion.
-pub fn delete_keeps_sound()
-    ensures { DeleteLaw }
-{}
-
 /// Writes aside of the free side keep it.
 pub fn side_is_kept()
     ensures { SideKept }
@@ -113,4 +112,24 @@ pub fn side_is_kept()
 /// What a doubling makes of the space of a file.
 pub fn double_space()
     ensures { DoubleSpaceLaw }
+{}
+
+/// A sound file by its parts, its space and the blocks of its stack.
+pub fn sound_by_space()
+    ensures covers { CoverOfExtents }
+    ensures has { SoundHasBlocks }
+    ensures made { BlocksMakeSound }
+    ensures side { SoundHasSide }
+{}
+
+/// Extents that end before a place of the format stand in right fields.
+pub fn below_is_right()
+    ensures bucket { BelowIsRight }
+    ensures table { BelowIsAvail }
+{}
+
+/// A store without a split, and a deletion, over a whole sound file: it stays sound, and its map changes at the key alone.
+pub fn whole_changes()
+    ensures store { StoreKeepsSound }
+    ensures delete { DeleteKeepsSound }
 {}

@@ -1,11 +1,12 @@
 -- What a header without a fault says.
-use Rattle.std.proofs.Common.{◌≡◌, ℕ, ◌+◌, ◌-◌, ◌*◌, ◌/◌, ◌≤◌, Bool, true, false, not, List, [], ◌∷◌, None, refl, arith}
+use Rattle.std.proofs.Common.{◌≡◌, ℕ, ◌+◌, ◌-◌, ◌*◌, ◌/◌, ◌^◌, ◌≤◌, Bool, true, false, not, List, [], ◌∷◌, None, refl, arith}
 use Rattle.std.specs.Prelude.{ℤ, pos, negsuc}
 use Rattle.std.proofs.lemmas.Bool.{leb-true, ltb-false}
 use Rattle.std.proofs.lemmas.Bool.Decides.{Decides-eqb}
 use Rattle.gd_format.specs.First.{first_that_holds}
 use Rattle.std.specs.List.{AllByRecursion}
-use Rattle.gd_format.specs.HeaderFault.{header_at, header_of, header_tests, header_fault_of, is_within, is_number, natural, is_block_size, is_dir_in, are_sizes_right, dir_size_of, slots_of}
+use Rattle.gd_format.specs.HeaderFault.{header_at, header_of, header_tests, header_fault_of, is_within, is_number, natural, is_block_size, is_dir_in, are_sizes_right, dir_size_of, slots_of, is_table_right, capacity_at, table_room}
+use Rattle.gd_format.specs.Field.{u32_at, i32_at}
 use Rattle.gd_format.proofs.Firsts.{and-true}
 use Rattle.gd_parts.specs.Sizes.{IsHeaderIn}
 
@@ -33,7 +34,7 @@ dir_fits : (dir size len : ℕ) → size ≤ len → dir ≤ len - size → dir 
 dir_fits dir size len room place = omega (arith, room, place)
 
 pub header_in : (front : List ℕ) (len : ℕ) → header_fault_of front len ≡ None → IsHeaderIn (header_of front) len
-unfolding header_fault_of header_of is_block_size is_dir_in are_sizes_right
+unfolding header_fault_of header_of is_block_size is_dir_in are_sizes_right is_table_right
 header_in front len none =
     let all = none_holds (header_tests front len) none in
     let after_five = all.1.1.1.1.1 in
@@ -49,6 +50,8 @@ header_in front len none =
     let room = leb-true (dir_size_of (natural (header_at front).dir_bits)) len dir_b.1 in
     let place = within (header_at front).dir 0 (len - dir_size_of (natural (header_at front).dir_bits)) dir_a.1 in
     let elems = number (header_at front).elems (slots_of (natural (header_at front).block)) (and-true _ _ (not_false _ j.0)).1 in
+    let next = within (header_at front).next_block 0 (2 ^ 46) (not_false _ j.1.0) in
+    let table = within (capacity_at front) 2 (table_room (u32_at front 0) (natural (i32_at front 4))) (not_false _ j.1.1.0) in
     record {
       bits = bits.1;
       least = block.0;
@@ -57,4 +60,7 @@ header_in front len none =
       elems = elems;
       slots = slots_fit (natural (header_at front).block) (natural (header_at front).elems) block.0 elems;
       dir = dir_fits (natural (header_at front).dir) (dir_size_of (natural (header_at front).dir_bits)) len room place.1;
+      next = next.1;
+      table_least = table.0;
+      table_most = table.1;
     }

@@ -3,3 +3,4 @@ pub mod Cover
 pub mod Points
 pub mod Frame
 pub mod Sizes
+pub mod Stack

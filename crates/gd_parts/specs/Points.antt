@@ -1,11 +1,11 @@
 -- A sound file by parts: those of a readable file, and the points on its space.
 use Rattle.std.specs.Prelude.{◌≡◌, ℕ, ◌<◌, ◌≤◌, ◌↔◌, true, List, length, None}
 use Rattle.gd_format.specs.declared.Header.{Header}
-use Rattle.gd_format.specs.HeaderFault.{natural, header_fault_of, header_of}
+use Rattle.gd_format.specs.HeaderFault.{natural, header_fault_of}
 use Rattle.gd_format.specs.File.{front_of, entry_at, entries_of}
 use Rattle.gd_format.specs.Avail.{is_avail}
 use Rattle.gd_format.specs.Sound.{IsSound, table_of, most_of, top_of, stack_fault, is_free_right, extents_held, space_fault}
-use Rattle.gd_parts.specs.Parts.{HasParts}
+use Rattle.gd_parts.specs.Parts.{HasParts, file_header}
 use Rattle.gd_parts.specs.Cover.{extents_in, EndBy, IsOnce}
 
 -- the points on space, of a readable file
@@ -19,8 +19,8 @@ pub record HasPoints (file : List ℕ) (h : Header) : Type 0 where
 
 pub record HasSoundParts (file : List ℕ) : Type 0 where
   pub header : header_fault_of (front_of file) (length file) ≡ None
-  pub parts : HasParts file (header_of (front_of file))
-  pub points : HasPoints file (header_of (front_of file))
+  pub parts : HasParts file (file_header file)
+  pub points : HasPoints file (file_header file)
 
 -- a file is sound exactly where its parts and the points are right
 abbrev pub SoundByParts : Type 0

@@ -8,6 +8,7 @@ ghost use Rattle.gd_parts.specs.Frame.{StillKeepsPart, StillKeepsRecords, WriteK
 ghost use Rattle.gd_parts.specs.Parts.{ReadableByParts};
 ghost use Rattle.gd_parts.specs.Points.{PointsByCover, SoundByParts};
 ghost use Rattle.gd_parts.specs.Sizes.{HeaderHasSizes};
+ghost use Rattle.gd_parts.specs.Stack.{ApartAreDistinct, BlocksMakeStack, StackHasBlocks};
 
 /// A file is readable exactly where its header, its directory and each bucket by itself are right.
 pub fn readable_by_parts()
@@ -43,4 +44,11 @@ pub fn apart_by_cover()
 /// What a header without a fault says of sizes.
 pub fn header_has_sizes()
     ensures { HeaderHasSizes }
+{}
+
+/// A stack of blocks of free space without a refusal is a list of blocks at addresses of their own.
+pub fn stack_by_blocks()
+    ensures made { BlocksMakeStack }
+    ensures has { StackHasBlocks }
+    ensures distinct { ApartAreDistinct }
 {}
