@@ -46,7 +46,7 @@ pairs-step place (x ∷ bytes) some =
 
 -- ---- what the bytes that have come say
 
-number-front : (xs ys : List ℕ) → 4 ≤ length xs → number_at (xs ++ ys) ≡ number_at xs
+pub number-front : (xs ys : List ℕ) → 4 ≤ length xs → number_at (xs ++ ys) ≡ number_at xs
 number-front xs ys le = ap (λ (b : List ℕ). from_be_bytes w32 b) (take-append-le 4 xs ys le)
 
 keyed : (next : ℕ → List ℕ → Told) (place k : ℕ) (held rest : List ℕ) → HasKey held k → pair_told next place (held ++ rest) ≡ keyed_pair_told next k place (held ++ rest)

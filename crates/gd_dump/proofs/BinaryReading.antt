@@ -63,7 +63,7 @@ bad-line-left n place held piece rest end inside none feed bad =
     ∙ cond-false (is_head_line n line) (head_told pairs_told n (place + length line + 1) (drop (end + 1) piece ++ rest)) (refused Version place) bad
 
 -- the same by the phase
-at-phase : (p : Phase) (n : ℕ) → p ≡ Head (n + 1) → p ≡ Head (suc n)
+pub at-phase : (p : Phase) (n : ℕ) → p ≡ Head (n + 1) → p ≡ Head (suc n)
 at-phase p n is = is ∙ ap Head (omega arith)
 
 pub part-phase : (p : Phase) (n place : ℕ) (held piece rest : List ℕ) → p ≡ Head (n + 1) → NoFeed piece (length piece) → left_in p place held (piece ++ rest) ≡ left_in p place (held ++ piece) rest

@@ -1,8 +1,8 @@
 -- Pieces of which some bytes went in before.
 use Rattle.std.proofs.Common.{◌≡◌, ◌∙◌, ap, sym, ℕ, ◌+◌, ◌-◌, ◌≤◌, List, ◌++◌, length, take, drop, Option, Some, None, arith}
 use Rattle.std.proofs.lemmas.List.{drop-append-le, drop-drop, take_rest}
-use Rattle.gd_dump.specs.Told.{Told, given_if}
-use Rattle.gd_dump.specs.Readers.{unless_stopped}
+use Rattle.gd_dump.specs.Told.{EndBehind, Told, given_if}
+use Rattle.gd_dump.specs.Readers.{unless, unless_stopped}
 use Rattle.gd_dump.specs.declared.items.Item.{Item}
 use Rattle.gd_dump.specs.declared.items.Refusal.{Refusal}
 
@@ -24,3 +24,8 @@ fed-on f g item end ahead n k piece within same fed rest =
 pub taken-more : (stop : Option Refusal) (a b n : ℕ) → stop ≡ None → b ≡ a + n → unless_stopped stop b ≡ unless_stopped stop a + n
 taken-more None a b n going is = is
 taken-more (Some stop) a b n going is = absurd (cc)
+
+-- what a reader that has refused still gives has no item
+pub unless-behind : (stop : Option Refusal) (n : ℕ) (t : Told) → EndBehind n t.items → EndBehind (unless_stopped stop n) (unless stop t).items
+unless-behind None n t ends = ends
+unless-behind (Some stop) n t ends = tt

@@ -1,5 +1,6 @@
 mod AsciiEnds
 mod AsciiTrip
+mod BinaryEnds
 mod BinaryPairs
 mod BinaryReading
 mod BinaryTrip
@@ -10,6 +11,7 @@ mod Datums
 mod Digits
 mod Encoded
 mod Feeding
+mod ItemEnds
 mod LineCuts
 mod Lines
 mod Names

@@ -1,5 +1,5 @@
 -- What a dump tells: its items, each with the number of bytes up to its end, and the refusal that ends it where there is one.
-use Rattle.std.specs.Prelude.{◌≡◌, ℕ, ◌+◌, ◌≤◌, List, [], ◌∷◌, ◌++◌, drop, length, Option, Some, None, Result, Ok, Err}
+use Rattle.std.specs.Prelude.{◌≡◌, ℕ, ◌+◌, ◌<◌, ◌≤◌, List, [], ◌∷◌, ◌++◌, drop, length, Option, Some, None, Result, Ok, Err}
 use Rattle.gd_dump.specs.declared.items.DumpKind.{DumpKind}
 use Rattle.gd_dump.specs.declared.items.DumpError.{DumpError}
 use Rattle.gd_dump.specs.declared.items.DumpError.TheVariants.{Bad, OutOfMemory}
@@ -36,6 +36,15 @@ pairs_of [] = []
 pairs_of ((Pair key value, end) ∷ items) = (key, value) ∷ pairs_of items
 pairs_of ((item, end) ∷ items) = pairs_of items
 
+-- each item ends behind that place
+abbrev pub EndBehind : ℕ → List (Item × ℕ) → Type 0
+EndBehind place [] = Unit {0}
+EndBehind place (i ∷ items) = (place < i.1) × EndBehind place items
+
+-- no item ends in the bytes up to that place, whatever comes behind them
+abbrev pub NoneEnds : (List ℕ → Told) → ℕ → Type 0
+NoneEnds told place = (rest : List ℕ) → 0 < length rest → EndBehind place (told rest).items
+
 -- ---- one step of a reader, of which old and new say what it still gives, before and after, for each rest of the input
 
 abbrev pub Steps : (List ℕ → Told) → (List ℕ → Told) → ℕ → ℕ → List ℕ → Result Fed DumpError → Type 0
@@ -48,6 +57,11 @@ Steps old new before after piece (Err OutOfMemory) = (after ≡ before) × ((res
 abbrev pub GoesOn : List ℕ → Result Fed DumpError → Type 0
 GoesOn piece (Ok fed) = fed.item ≡ None → fed.taken ≡ 0 → length piece ≡ 0
 GoesOn piece (Err e) = Unit {0}
+
+-- where nothing is taken and no item given, none ends before more comes
+abbrev pub Waits : (List ℕ → Told) → ℕ → Result Fed DumpError → Type 0
+Waits new after (Ok fed) = fed.item ≡ None → fed.taken ≡ 0 → NoneEnds new after
+Waits new after (Err e) = Unit {0}
 
 -- steps up to the first item, or to the end of the piece
 abbrev pub Runs : (List ℕ → Told) → (List ℕ → Told) → ℕ → ℕ → List ℕ → Result Fed Stopped → Type 0

@@ -1,6 +1,6 @@
 //! The steps of the reader of ASCII dumps.
 
-ghost use Rattle.std.specs.Prelude.{◌==◌, ◌&&◌, ◌⊎◌, MatchOption, drop, ◌≡◌, ◌≢◌, ◌+◌, ◌-◌, ◌^◌, ◌≤◌, ◌<◌, ℕ, List, slice_index, [], false, true, codes, eqb, length, vec_len};
+ghost use Rattle.std.specs.Prelude.{◌==◌, ◌&&◌, ◌⊎◌, MatchOption, drop, ◌≡◌, ◌≢◌, ◌+◌, ◌-◌, ◌^◌, ◌≤◌, ◌<◌, ℕ, List, slice_index, [], false, true, codes, eqb, length, vec_len, IfOk};
 ghost use Rattle.std.specs.List.{starts_with};
 ghost use Rattle.gd_dump.specs.AsciiRooms.{counted, line_room};
 
@@ -53,7 +53,7 @@ impl AsciiMachine {
     ghost use Rattle.gd_dump.specs.AsciiSteps.{Follows, HasDatum, SameBut};
     ghost use Rattle.gd_dump.specs.Lines.{NoFeed};
     ghost use Rattle.gd_dump.specs.Numbers.{is_number, value_of};
-    ghost use Rattle.gd_dump.specs.Told.{Ends, GoesOn, Runs, Steps, nothing, refused};
+    ghost use Rattle.gd_dump.specs.Told.{Ends, GoesOn, NoneEnds, Runs, Steps, nothing, refused};
 
     pub fn new(alloc: Global) -> AsciiMachine
         ensures left { (bytes : List ℕ) → ascii_left result bytes ≡ ascii_items bytes }
@@ -461,7 +461,8 @@ impl AsciiMachine {
     /// Steps up to the first item, or to the end of the piece.
     pub fn run(&mut self, piece: &[u8]) -> Result<Fed, Stopped>
         requires { ascii_taken self.old + length piece.now ≤ 2 ^ 63 - 1 }
-        ensures { Runs (ascii_left self.old) (ascii_left self.new) (ascii_taken self.old) (ascii_taken self.new) piece.now result }
+        ensures runs { Runs (ascii_left self.old) (ascii_left self.new) (ascii_taken self.old) (ascii_taken self.new) piece.now result }
+        ensures none { IfOk result (λ fed. fed.item ≡ None → NoneEnds (ascii_left self.new) (ascii_taken self.new)) }
     {
         let mut at = 0;
         loop {

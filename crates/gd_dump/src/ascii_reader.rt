@@ -27,7 +27,7 @@ pub struct AsciiReader {
 
 impl AsciiReader {
     ghost use Rattle.gd_dump.specs.Readers.{ascii_reader_left, ascii_reader_taken, ascii_refusal};
-    ghost use Rattle.gd_dump.specs.Told.{Feeds, Finishes, Repeats, refused};
+    ghost use Rattle.gd_dump.specs.Told.{Feeds, Finishes, NoneEnds, Repeats, refused};
 
     pub fn new(alloc: Global) -> AsciiReader
         ensures left { (bytes : List ℕ) → ascii_reader_left result bytes ≡ ascii_items bytes }
@@ -47,6 +47,7 @@ impl AsciiReader {
         ensures feeds { Feeds (ascii_reader_left self.old) (ascii_reader_left self.new) (ascii_reader_taken self.old) (ascii_reader_taken self.new) piece.now result }
         ensures again { Repeats (ascii_refusal self.old) (ascii_refusal self.new) result }
         ensures whole { IfOk result (λ fed. fed.item ≡ None → fed.taken ≡ length piece.now) }
+        ensures none { IfOk result (λ fed. fed.item ≡ None → NoneEnds (ascii_reader_left self.new) (ascii_reader_taken self.new)) }
     {
         if let Some(stop) = self.stop {
             return Err(DumpError::Bad {

@@ -1,6 +1,6 @@
 //! The steps of the reader of binary dumps.
 
-ghost use Rattle.std.specs.Prelude.{[], ◌≡◌, ℕ, List, slice_index, ◌+◌, ◌-◌, ◌^◌, ◌≤◌, ◌<◌, length, take, drop, codes, vec_len};
+ghost use Rattle.std.specs.Prelude.{[], ◌≡◌, ℕ, List, slice_index, ◌+◌, ◌-◌, ◌^◌, ◌≤◌, ◌<◌, length, take, drop, codes, vec_len, IfOk};
 ghost use Rattle.gd_dump.specs.BinaryItems.{binary_items, is_head_line, is_no_head, number_at};
 ghost use Rattle.gd_dump.specs.BinaryDemand.{DemandIs, needed, room};
 ghost use Rattle.gd_dump.specs.Lines.{NoFeed, contains, is_overlong};
@@ -113,7 +113,7 @@ fn demand_of(held: &[u8]) -> Demand
 
 impl BinaryMachine {
     ghost use Rattle.gd_dump.specs.BinaryLeft.{binary_left, binary_taken};
-    ghost use Rattle.gd_dump.specs.Told.{Ends, GivesPair, GoesOn, RefusedWith, Runs, Steps, given};
+    ghost use Rattle.gd_dump.specs.Told.{Ends, GivesPair, GoesOn, NoneEnds, RefusedWith, Runs, Steps, Waits, given};
 
     pub fn new(alloc: Global) -> BinaryMachine
         ensures left { (bytes : List ℕ) → binary_left result bytes ≡ binary_items bytes }
@@ -134,6 +134,7 @@ impl BinaryMachine {
         requires within { NoFeed piece.now (length piece.now) }
         ensures steps { Steps (binary_left self.old) (binary_left self.new) (binary_taken self.old) (binary_taken self.new) piece.now result }
         ensures goes_on { GoesOn piece.now result }
+        ensures waits { Waits (binary_left self.new) (binary_taken self.new) result }
     {
         if self.held.extend_from_slice(piece).is_err() {
             return Err(DumpError::OutOfMemory);
@@ -159,6 +160,7 @@ impl BinaryMachine {
         requires feed { slice_index piece.now end ≡ 10 }
         ensures steps { Steps (binary_left self.old) (binary_left self.new) (binary_taken self.old) (binary_taken self.new) piece.now result }
         ensures goes_on { GoesOn piece.now result }
+        ensures waits { Waits (binary_left self.new) (binary_taken self.new) result }
     {
         if self.held.extend_from_slice(&piece[..end]).is_err() {
             return Err(DumpError::OutOfMemory);
@@ -184,6 +186,7 @@ impl BinaryMachine {
         requires fits { binary_taken self.old + length piece.now ≤ 2 ^ 63 - 1 }
         ensures steps { Steps (binary_left self.old) (binary_left self.new) (binary_taken self.old) (binary_taken self.new) piece.now result }
         ensures goes_on { GoesOn piece.now result }
+        ensures waits { Waits (binary_left self.new) (binary_taken self.new) result }
     {
         match memchr(b'\n', piece) {
             Some(end) => self.end_of_line(after, piece, end),
@@ -199,6 +202,7 @@ impl BinaryMachine {
         requires wanted { wanted ≡ needed self.old.held.items }
         ensures steps { Steps (binary_left self.old) (binary_left self.new) (binary_taken self.old) (binary_taken self.new) piece.now result }
         ensures goes_on { GoesOn piece.now result }
+        ensures waits { Waits (binary_left self.new) (binary_taken self.new) result }
     {
         let taken = piece.len().min(wanted - self.held.len());
         if self.held.extend_from_slice(&piece[..taken]).is_err() {
@@ -226,6 +230,7 @@ impl BinaryMachine {
         requires fits { binary_taken self.old + length piece.now ≤ 2 ^ 63 - 1 }
         ensures steps { Steps (binary_left self.old) (binary_left self.new) (binary_taken self.old) (binary_taken self.new) piece.now result }
         ensures goes_on { GoesOn piece.now result }
+        ensures waits { Waits (binary_left self.new) (binary_taken self.new) result }
     {
         match demand_of(&self.held) {
             Demand::More(wanted) => self.more_of_pair(wanted, piece),
@@ -256,6 +261,7 @@ impl BinaryMachine {
         requires { binary_taken self.old + length piece.now ≤ 2 ^ 63 - 1 }
         ensures steps { Steps (binary_left self.old) (binary_left self.new) (binary_taken self.old) (binary_taken self.new) piece.now result }
         ensures goes_on { GoesOn piece.now result }
+        ensures waits { Waits (binary_left self.new) (binary_taken self.new) result }
     {
         match self.phase {
             Phase::Head(0) => {
@@ -343,7 +349,8 @@ impl BinaryMachine {
     /// Steps up to the first item, or to the end of the piece.
     pub fn run(&mut self, piece: &[u8]) -> Result<Fed, Stopped>
         requires { binary_taken self.old + length piece.now ≤ 2 ^ 63 - 1 }
-        ensures { Runs (binary_left self.old) (binary_left self.new) (binary_taken self.old) (binary_taken self.new) piece.now result }
+        ensures runs { Runs (binary_left self.old) (binary_left self.new) (binary_taken self.old) (binary_taken self.new) piece.now result }
+        ensures none { IfOk result (λ fed. fed.item ≡ None → NoneEnds (binary_left self.new) (binary_taken self.new)) }
     {
         let mut at = 0;
         loop {

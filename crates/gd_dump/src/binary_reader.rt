@@ -26,7 +26,7 @@ pub struct BinaryReader {
 
 impl BinaryReader {
     ghost use Rattle.gd_dump.specs.Readers.{binary_reader_left, binary_reader_taken, binary_refusal};
-    ghost use Rattle.gd_dump.specs.Told.{Feeds, Finishes, Repeats, refused};
+    ghost use Rattle.gd_dump.specs.Told.{Feeds, Finishes, NoneEnds, Repeats, refused};
 
     pub fn new(alloc: Global) -> BinaryReader
         ensures left { (bytes : List ℕ) → binary_reader_left result bytes ≡ binary_items bytes }
@@ -46,6 +46,7 @@ impl BinaryReader {
         ensures feeds { Feeds (binary_reader_left self.old) (binary_reader_left self.new) (binary_reader_taken self.old) (binary_reader_taken self.new) piece.now result }
         ensures again { Repeats (binary_refusal self.old) (binary_refusal self.new) result }
         ensures whole { IfOk result (λ fed. fed.item ≡ None → fed.taken ≡ length piece.now) }
+        ensures none { IfOk result (λ fed. fed.item ≡ None → NoneEnds (binary_reader_left self.new) (binary_reader_taken self.new)) }
     {
         if let Some(stop) = self.stop {
             return Err(DumpError::Bad {

@@ -1,2 +1,4 @@
+mod gnu;
+mod pieces;
 mod reading;
 mod writing;

@@ -4,7 +4,7 @@ use gd_base::Format;
 use std::alloc::Global;
 use std::process::Abort;
 
-const BINARY: &[u8] =
+pub const BINARY: &[u8] =
     b"!\r\n! GDBM FLAT FILE DUMP -- THIS IS NOT A TEXT FILE\r\n! GDBM version 1.23\r\n!\r\n\x00\x00\x00\x01k\x00\x00\x00\x01v";
 
 fn add(rt: &impl Abort, text: &mut Vec<u8>, bytes: &[u8]) {
@@ -37,7 +37,7 @@ fn show(rt: &impl Abort, text: &mut Vec<u8>, item: &Item) {
 }
 
 // What a dump in pieces of this size is read as, and the refusal.
-fn read_binary(
+pub fn read_binary(
     rt: &impl Abort,
     alloc: Global,
     bytes: &[u8],
@@ -72,7 +72,7 @@ fn read_binary(
 }
 
 // What a dump in pieces of this size is read as, and the refusal.
-fn read_ascii(
+pub fn read_ascii(
     rt: &impl Abort,
     alloc: Global,
     bytes: &[u8],
@@ -251,7 +251,7 @@ fn refuses_ascii_where_it_is_cut(rt: HostRuntime) {
         (148, PAIR, DumpKind::Truncated, 148),
     ];
     for (len, want, kind, place) in rows {
-        for size in [1, 150] {
+        for size in [1, 2, 3, 150] {
             let bytes = ONE_RECORD.get(..len).unwrap_or(b"");
             let (text, error) = read_ascii(&rt, rt.alloc(), bytes, size);
             assert_eq!(rt; text.as_slice(), want, "{len}");
@@ -262,7 +262,7 @@ fn refuses_ascii_where_it_is_cut(rt: HostRuntime) {
 
 #[test]
 fn reads_whole_ascii_dumps(rt: HostRuntime) {
-    let rows: [(&[u8], &[u8]); 6] = [
+    let rows: [(&[u8], &[u8]); 8] = [
         (&ONE_RECORD[..149], b"head standard a.gdbm k=v end "),
         (
             b"# GDBM dump file created by GDBM version 1.23\n#:version=1.1\n#:file=junk.gdbm\n#:uid=1000,user=gray,gid=1000,group=users,mode=664\n#:format=numsync\n# End of header\n#:len=1\naw==\n#:len=1\ndg==\n#:count=1\n# End of data\n",
@@ -284,9 +284,17 @@ fn reads_whole_ascii_dumps(rt: HostRuntime) {
             b"#:version=1.0,file=x,version=1.1,file=y\n# End of header\n#:len=0\n#:len=3\nYWFh\n#:count=1\n# End of data\n",
             b"head y =aaa end ",
         ),
+        (
+            b"#:version=1.1\n# End of header\n#:len=0\n#:len=58\nYWFhYWFhYWFhYWFhYWFhYWFhYWFhYWFhYWFhYWFhYWFhYWFhYWFhYWFhYWFhYWFhYWFhYWFhYWFh\nYQ==\n#:count=1\n# End of data\n",
+            b"head =aaaaaaaaaaaaaaaaaaaaaaaaaaaaaaaaaaaaaaaaaaaaaaaaaaaaaaaaaa end ",
+        ),
+        (
+            b"#:version=1.1\n# End of header\n#:count=00000000000000000000\n# End of data\n",
+            b"head end ",
+        ),
     ];
     for (bytes, want) in rows {
-        for size in [1, 150] {
+        for size in [1, 2, 3, 150] {
             let (text, error) = read_ascii(&rt, rt.alloc(), bytes, size);
             assert_eq!(rt; text.as_slice(), want, "{bytes:?}");
             assert_eq!(rt; error, None, "{bytes:?}");
