@@ -1,3 +1,5 @@
+mod Appending
+mod Cuts
 mod Finding
 mod Making
 mod Widths

@@ -1,5 +1,5 @@
 -- The bytes of words under a definition.
-use Rattle.std.specs.Prelude.{◌≡◌, ⊤, ℕ, ◌-◌, Bool, ◌==◌, if◌then◌else◌, List, [], ◌∷◌, ◌++◌, length, replicate, ℤ, count_by, Result, Ok, Err}
+use Rattle.std.specs.Prelude.{◌≡◌, ⊤, ℕ, ◌-◌, Bool, ◌==◌, if◌then◌else◌, List, [], ◌∷◌, ◌++◌, length, drop, replicate, ℤ, count_by, Result, Ok, Err}
 use Rattle.std.specs.List.{list_any}
 use Rattle.gd_types.specs.Members.{Defined, has_value, place_after}
 use Rattle.gd_types.specs.Numerals.{word_number}
@@ -29,15 +29,24 @@ before (Ok front) (Ok bytes) = Ok (front ++ bytes)
 before (Ok front) (Err e) = Err e
 before (Err e) rest = Err e
 
--- the bytes of members from a place on, one word for each value, with zeros in the gaps
+-- the bytes of one member at a place: zeros for a gap, and for a value those of the next word
+abbrev pub one_bytes : ℕ → Member → List (List ℕ) → Result (List ℕ) TypeError
+one_bytes at (Off place) words = Ok (replicate (place - at) 0)
+one_bytes at (Pad count) words = Ok (replicate count 0)
+one_bytes at (Row row) (word ∷ words) = word_bytes (kind_of row) word
+one_bytes at (Row row) [] = Err Text
+one_bytes at Float words = Err FloatMember
+one_bytes at Double words = Err FloatMember
+
+-- the words for the members behind one
+abbrev pub words_after : Member → List (List ℕ) → List (List ℕ)
+words_after member words = if has_value member then drop 1 words else words
+
+-- the bytes of members from a place on, or the first refusal
 abbrev pub member_bytes : ℕ → List Member → List (List ℕ) → Result (List ℕ) TypeError
 member_bytes at [] words = Ok []
-member_bytes at (Off place ∷ members) words = before (Ok (replicate (place - at) 0)) (member_bytes place members words)
-member_bytes at (Pad count ∷ members) words = before (Ok (replicate count 0)) (member_bytes (place_after at (Pad count)) members words)
-member_bytes at (Row row ∷ members) (word ∷ words) = before (word_bytes (kind_of row) word) (member_bytes (place_after at (Row row)) members words)
-member_bytes at (Row row ∷ members) [] = Err Text
-member_bytes at (Float ∷ members) words = Err FloatMember
-member_bytes at (Double ∷ members) words = Err FloatMember
+member_bytes at (member ∷ members) words =
+    before (one_bytes at member words) (member_bytes (place_after at member) members (words_after member words))
 
 -- how many values a definition has
 abbrev pub value_count : Defined → ℕ
@@ -55,3 +64,8 @@ Refuses OutOfMemory typed = ⊤
 abbrev pub Encodes : Result (List ℕ) EncodeError → Result (List ℕ) TypeError → Type 0
 Encodes (Ok bytes) typed = typed ≡ Ok bytes
 Encodes (Err e) typed = Refuses e typed
+
+-- bytes were put behind those of before, or refused
+abbrev pub Appends : List ℕ → List ℕ → Result (Unit {0}) EncodeError → Result (List ℕ) TypeError → Type 0
+Appends old new (Ok x) typed = (bytes : List ℕ) × (typed ≡ Ok bytes) × (new ≡ old ++ bytes)
+Appends old new (Err e) typed = Refuses e typed

@@ -1,5 +1,5 @@
 -- What numbers words write.
-use Rattle.std.specs.Prelude.{ℕ, Bool, ◌&&◌, nat_lt, nat_eq, if◌then◌else◌, List, length, drop, codes, ℤ, pos, neg_ℤ, Option, Some, None, option_map, Result, Ok, Err}
+use Rattle.std.specs.Prelude.{ℕ, ◌-◌, ◌^◌, min, Bool, ◌&&◌, nat_lt, nat_eq, if◌then◌else◌, List, length, drop, codes, ℤ, pos, negsuc, neg_ℤ, Option, Some, None, option_map, Result, Ok, Err}
 use Rattle.std.specs.Char.{is_digit}
 use Rattle.std.specs.List.{list_all, starts_with}
 use Rattle.std.specs.Str.Parse.{digits_value}
@@ -24,3 +24,8 @@ held_number width signed (Some z) = if is_held width signed z then Ok z else Err
 
 abbrev pub word_number : ℕ → Bool → List ℕ → Result ℤ TypeError
 word_number width signed word = held_number width signed (numeral signed word)
+
+-- a number, cut to 2^64 and -2^64, which no type holds
+abbrev pub cut : ℤ → ℤ
+cut (pos n) = pos (min n (2 ^ 64))
+cut (negsuc n) = negsuc (min n (2 ^ 64 - 1))

@@ -1,7 +1,8 @@
 //! Definitions of keys and contents.
 
 ghost use Rattle.std.specs.Prelude.{◌≡◌, ◌∷◌, ◌++◌, [], true, IfOk, OnOk, OnErr};
-ghost use Rattle.gd_types.specs.Members.{accepts, has_float};
+ghost use Rattle.gd_types.specs.Encoding.{value_count};
+ghost use Rattle.gd_types.specs.Members.{accepts, has_float, is_made_from};
 
 use crate::Member;
 use gd_base::OutOfMemory;
@@ -82,6 +83,24 @@ impl Definition {
             }),
             Err(_) => Err(OutOfMemory),
         }
+    }
+
+    /// The members. Each fits at its place.
+    pub(crate) fn members(&self) -> &[Member]
+        ensures same { result.now ≡ self.now.members }
+        ensures made { is_made_from 0 self.now.members ≡ true }
+    {
+        &self.members
+    }
+
+    /// How many values there are.
+    pub(crate) fn value_count(&self) -> usize
+        ensures { result ≡ value_count self.now }
+    {
+        self.members
+            .iter()
+            .filter(|member| member.has_value())
+            .count()
     }
 
     /// Whether there is a float or a double.

@@ -2,14 +2,17 @@
 #![tactic(auto)]
 
 mod definition;
+mod encoding;
 mod errors;
 mod members;
+mod numerals;
 mod rows;
 mod scalars;
 mod tables;
 mod words;
 
 pub use definition::Definition;
+pub use encoding::encode;
 pub use errors::{DecodeError, EncodeError, TypeError};
 pub use members::Member;
 pub use scalars::{SCALARS, Scalar, scalar_table};
