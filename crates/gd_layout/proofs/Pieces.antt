@@ -1,6 +1,6 @@
 -- Bytes that are written at a place, and the fields before it.
-use Rattle.std.proofs.Common.{◌≡◌, ℕ, ◌+◌, ◌^◌, ◌<◌, ◌≤◌, List, ◌++◌, length, take, drop, sym, ap, ◌∙◌}
-use Rattle.std.proofs.lemmas.List.{take-take, drop-take, drop_at, take-append-le, length-take-le}
+use Rattle.std.proofs.Common.{◌≡◌, ℕ, ◌+◌, ◌-◌, ◌^◌, ◌<◌, ◌≤◌, List, [], ◌++◌, length, take, drop, sym, ap, ◌∙◌, arith, length-drop}
+use Rattle.std.proofs.lemmas.List.{take-take, drop-take, drop-drop, drop_at, drop_all, take_at, take_rest, append-nil, take-append-le, length-take-le}
 use Rattle.std.proofs.lemmas.Int.{to_z_pos}
 use Rattle.std.specs.Prelude.{pos}
 use Rattle.std.specs.Int.{w32, w64, cast_signed}
@@ -51,6 +51,36 @@ i32_at-front a m xs ys le e = ap (cast_signed w32) (u32_at-front a m xs ys le e)
 pub i64_at-front : (a m : ℕ) (xs ys : List ℕ) → a + 8 ≤ m → take m xs ≡ take m ys → i64_at xs a ≡ i64_at ys a
 unfolding i64_at
 i64_at-front a m xs ys le e = ap (cast_signed w64) (u64_at-front a m xs ys le e)
+
+-- ---- what a shared rest gives
+
+pub drop-more : (n m : ℕ) (xs ys : List ℕ) → n ≤ m → drop n xs ≡ drop n ys → drop m xs ≡ drop m ys
+drop-more n m xs ys le e =
+    let whole : n + (m - n) ≡ m = omega arith in
+    ap (λ (k : ℕ). drop k xs) (sym whole) ∙ sym (drop-drop (m - n) n xs) ∙ ap (drop (m - n)) e ∙ drop-drop (m - n) n ys ∙ ap (λ (k : ℕ). drop k ys) whole
+
+pub i64_at-back : (a m : ℕ) (xs ys : List ℕ) → m ≤ a → drop m xs ≡ drop m ys → i64_at xs a ≡ i64_at ys a
+unfolding i64_at u64_at
+i64_at-back a m xs ys le e = ap (λ (zs : List ℕ). cast_signed w64 (number_of (take 8 zs))) (drop-more m a xs ys le e)
+
+-- ---- a part that is put back
+
+-- what lies before it stays
+pub put-front : (a k : ℕ) (xs ys : List ℕ) → a ≤ length xs → take a (put_mid a k xs ys) ≡ take a xs
+put-front a k xs ys h = take_at (take a xs) (ys ++ post_of a k xs) a (length-take-le a xs h)
+
+-- the part up to the end is all that lies behind
+pub put_rest : (a k : ℕ) (xs ys : List ℕ) → a ≤ length xs → k ≡ length xs - a → drop a (put_mid a k xs ys) ≡ ys
+put_rest a k xs ys h ek =
+    let post : post_of a k xs ≡ [] = drop_all k (drop a xs) (omega (arith, length-drop a xs, ek)) in
+    drop_at (take a xs) (ys ++ post_of a k xs) a (length-take-le a xs h) ∙ ap (λ (p : List ℕ). ys ++ p) post ∙ append-nil ys
+
+-- the bytes behind those that were written
+pub put-back : (a k m : ℕ) (xs ys bs : List ℕ) → a ≤ length xs → k ≡ length xs - a → length bs ≡ m → ys ≡ bs ++ drop m (take k (drop a xs)) → drop (a + m) (put_mid a k xs ys) ≡ drop (a + m) xs
+put-back a k m xs ys bs h ek len e =
+    let rest : take k (drop a xs) ≡ drop a xs = ap (λ (j : ℕ). take j (drop a xs)) ek ∙ take_rest xs a in
+    sym (drop-drop m a (put_mid a k xs ys)) ∙ ap (drop m) (put_rest a k xs ys h ek ∙ e ∙ ap (λ (r : List ℕ). bs ++ drop m r) rest) ∙ drop_at bs (drop m (drop a xs)) m len
+    ∙ drop-drop m a xs
 
 -- a number from 0 on, as a field with a sign
 pub i32_is : (xs : List ℕ) (at n : ℕ) → u32_at xs at ≡ n → n < 2 ^ 31 → i32_at xs at ≡ pos n

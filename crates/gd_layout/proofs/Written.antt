@@ -2,9 +2,8 @@
 use Rattle.std.proofs.Common.{◌≡◌, ℕ, zero, suc, ◌+◌, ◌*◌, ◌^◌, ◌<◌, ◌≤◌, Bool, true, false, not, cond, List, [], ◌∷◌, ◌++◌, length, take, refl, sym, ap, ◌∙◌, arith, add-one}
 use Rattle.std.proofs.lemmas.Bool.{le-leb}
 use Rattle.std.proofs.lemmas.Bool.Decides.{Decides-eqb}
-use Rattle.std.proofs.lemmas.Int.{of_z-to_z}
 use Rattle.std.specs.Prelude.{pos, negsuc}
-use Rattle.std.specs.Int.{w32, w64, cast_signed}
+use Rattle.std.specs.Int.{w32, cast_signed}
 use Rattle.gd_format.specs.declared.Extent.{Extent}
 use Rattle.gd_format.specs.declared.Slot.{Slot}
 use Rattle.gd_format.specs.declared.Slot.TheVariants.{Empty, Full}
@@ -14,7 +13,8 @@ use Rattle.gd_format.specs.Bucket.{raw_slot_at, raw_free_at, is_empty_hash, slot
 use Rattle.gd_format.specs.File.{is_full_at, is_count_right}
 use Rattle.gd_format.specs.Slots.{count, is_full}
 use Rattle.gd_format.proofs.Firsts.{both_true}
-use Rattle.gd_layout.specs.Writing.{raw_slot_from, raw_extent_from}
+use Rattle.gd_layout.specs.Writing.{ArePut, raw_slot_from, raw_extent_from}
+use Rattle.gd_layout.proofs.PutExtents.{list_put}
 use Rattle.gd_layout.proofs.Pieces.{bytes_at-front, u32_at-front, u64_at-front, i32_at-front, i64_at-front, take-front, i32_is, i64_is}
 
 -- ---- one slot, one extent
@@ -63,12 +63,6 @@ module _ (b : List ℕ) (at : ℕ) (r : u32_at b at ≡ 4294967295) where
   unfolding is_slot_signed_right raw_slot_from
   empty_right = rw empty_hash refl
 
-pub extent_reads : (b1 b2 : List ℕ) (at size place : ℕ) → u32_at b1 at ≡ size → u64_at b2 (at + 8) ≡ place → take (at + 8) b2 ≡ take (at + 8) b1 → size < 2 ^ 32 → place < 2 ^ 64 → extent_of (raw_extent_from b2 at) ≡ record { at = place; size = size }
-unfolding extent_of raw_extent_from i32_at i64_at
-extent_reads b1 b2 at size place r1 r2 f ls lp =
-    let e1 = u32_at-front at (at + 8) b2 b1 (omega arith) f ∙ r1 in
-    rw (e1, r2, of_z-to_z w32 size ls, of_z-to_z w64 place lp) refl
-
 -- ---- the lists
 
 list_below-same : {X : Type 0} (n : ℕ) (f g : ℕ → X) → ((k : ℕ) → k < n → f k ≡ g k) → list_below n f ≡ list_below n g
@@ -115,7 +109,7 @@ module _ (xs ys : List ℕ) (n : ℕ) where
   pub free-front : take (8 + 16 * n) xs ≡ take (8 + 16 * n) ys → free_at xs n ≡ free_at ys n
   free-front e = list_below-same n (λ s. extent_of (raw_free_at xs s)) (λ s. extent_of (raw_free_at ys s)) (λ s lt. ap extent_of (raw_free-front e s lt))
 
--- one more slot, one more extent
+-- one more slot
 pub slots_more : (xs ys : List ℕ) (n : ℕ) (slots : List Slot) (slot : Slot) → take (112 + 24 * n) ys ≡ take (112 + 24 * n) xs → slots_at xs n ≡ slots → slot_of (raw_slot_from ys (112 + 24 * n)) ≡ slot → slots_at ys (n + 1) ≡ slots ++ slot ∷ []
 slots_more xs ys n slots slot f old new =
     let e = slots-front ys xs n f ∙ old in
@@ -127,12 +121,6 @@ right_more xs ys n f old new =
     let e = right-front ys xs n f ∙ old in
     let g : is_slot_signed_right (raw_slot_at ys n) ≡ true = ap is_slot_signed_right (slot_place ys n) ∙ new in
     rw add-one (both_true _ _ e g)
-
-pub free_more : (xs ys : List ℕ) (n : ℕ) (free : List Extent) (extent : Extent) → take (8 + 16 * n) ys ≡ take (8 + 16 * n) xs → free_at xs n ≡ free → extent_of (raw_extent_from ys (8 + 16 * n)) ≡ extent → free_at ys (n + 1) ≡ free ++ extent ∷ []
-free_more xs ys n free extent f old new =
-    let e = free-front ys xs n f ∙ old in
-    let g : extent_of (raw_free_at ys n) ≡ extent = ap extent_of (free_place ys n) ∙ new in
-    rw (add-one, e, g) refl
 
 -- ---- counts
 
@@ -164,6 +152,9 @@ full_below block (suc n) =
     omega (arith, ih, one, f)
 
 -- ---- the bucket
+
+pub free_put : (block : List ℕ) (free : List Extent) → ArePut block 8 free → free_at block (length free) ≡ free
+free_put block free put = list_put block 8 free put (λ e. extent_of (raw_free_at block e)) (λ e. ap extent_of (free_place block e))
 
 module _ (b2 b3 b4 b5 : List ℕ) (n bits full : ℕ) (free : List Extent) (slots : List Slot) (r0 : u32_at b2 0 ≡ length free) (r1 : free_at b2 (length free) ≡ free) (r2 : u32_at b3 104 ≡ bits) (r3 : u32_at b4 108 ≡ full) (f3 : take 104 b3 ≡ take 104 b2) (f4 : take 108 b4 ≡ take 108 b3) (f5 : take 112 b5 ≡ take 112 b4) (few : length free ≤ 6) (least : bits ≤ 24) (some : full < 2 ^ 31) (reads : slots_at b5 n ≡ slots) (right : are_slots_right b5 n ≡ true) (count_is : full ≡ count is_full slots) where
   front_3 : take 108 b5 ≡ take 108 b3

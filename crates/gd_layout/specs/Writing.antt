@@ -1,8 +1,16 @@
--- The slot and the free extent that stand at a place of a block.
-use Rattle.std.specs.Prelude.{ℕ, ◌+◌, List}
+-- What stands in a block where a slot, an extent, a header or a block of free space was written.
+use Rattle.std.specs.Prelude.{◌≡◌, ℕ, ◌+◌, ◌*◌, ◌<◌, pos, true, List, [], ◌∷◌, length, get_or}
+use Rattle.std.specs.Int.{w64, cast_signed}
+use Rattle.gd_format.specs.declared.Extent.{Extent}
+use Rattle.gd_format.specs.declared.Header.{Header}
+use Rattle.gd_format.specs.declared.RawAvail.{RawAvail}
 use Rattle.gd_format.specs.declared.RawSlot.{RawSlot}
 use Rattle.gd_format.specs.declared.RawExtent.{RawExtent}
-use Rattle.gd_format.specs.Field.{bytes_at, i32_at, i64_at}
+use Rattle.gd_format.specs.Field.{bytes_at, u32_at, i32_at, i64_at}
+use Rattle.gd_format.specs.Bucket.{extent_of}
+use Rattle.gd_format.specs.Avail.{Avail, is_extent_right}
+use Rattle.gd_format.specs.HeaderFault.{RawHeader, dir_size_of}
+use Rattle.gd_layout.specs.Fits.{FitsExtent}
 
 unfoldable pub raw_slot_from : List ℕ → ℕ → RawSlot
 raw_slot_from block at =
@@ -16,3 +24,36 @@ raw_slot_from block at =
 
 unfoldable pub raw_extent_from : List ℕ → ℕ → RawExtent
 raw_extent_from block at = record { size = i32_at block at; at = i64_at block (at + 8) }
+
+-- the extent stands at a place, with zeros between its fields
+pub record IsPut (block : List ℕ) (at : ℕ) (e : Extent) : Type 0 where
+  pub reads : extent_of (raw_extent_from block at) ≡ e
+  pub right : FitsExtent e → is_extent_right (raw_extent_from block at) ≡ true
+  pub padding : u32_at block (at + 4) ≡ 0
+
+-- these extents stand one after another from a place on
+abbrev pub ArePut : List ℕ → ℕ → List Extent → Type 0
+ArePut block at es = (k : ℕ) (d : Extent) → k < length es → IsPut block (at + 16 * k) (get_or es k d)
+
+-- the fields of a header as they stand in its block
+abbrev pub raw_header_from : Header → RawHeader
+raw_header_from h = record {
+  magic = h.magic;
+  block = pos h.block;
+  dir = pos h.dir;
+  dir_size = pos (dir_size_of h.dir_bits);
+  dir_bits = pos h.dir_bits;
+  bucket_size = pos h.block;
+  elems = pos h.elems;
+  next_block = pos h.next_block;
+}
+
+-- the fields that the numsync format alone has
+pub record HasWords (block : List ℕ) (h : Header) : Type 0 where
+  pub version : u32_at block 40 ≡ h.version
+  pub numsync : u32_at block 44 ≡ h.numsync
+  pub reserved : u32_at block 48 ∷ u32_at block 52 ∷ u32_at block 56 ∷ u32_at block 60 ∷ u32_at block 64 ∷ u32_at block 68 ∷ [] ≡ h.reserved
+
+-- the head of a block of free space as it stands
+abbrev pub raw_avail_from : Avail → ℕ → RawAvail
+raw_avail_from a size = record { size = pos size; count = pos (length a.extents); next_block = cast_signed w64 a.next_block }

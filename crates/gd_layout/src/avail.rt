@@ -1,11 +1,12 @@
 //! A block of free space: the table of a header, or a block of the stack.
 
-ghost use Rattle.std.specs.Prelude.{◌≡◌, ◌+◌, ◌*◌, ◌^◌, ◌<◌, ◌≤◌, length, true, false, [], ◌∷◌, ◌++◌, slice_index_or, vec_capacity, IfOk, IfErr, IfNone, IfSome};
-ghost use Rattle.std.specs.List.{remove};
+ghost use Rattle.std.specs.Prelude.{◌≡◌, ◌+◌, ◌*◌, ◌^◌, ◌<◌, ◌≤◌, length, take, true, false, [], ◌∷◌, ◌++◌, slice_index_or, vec_capacity, IfOk, IfErr, IfNone, IfSome};
+ghost use Rattle.std.specs.List.{All, remove};
 ghost use Rattle.gd_format.specs.First.{all_below, list_below};
 ghost use Rattle.gd_format.specs.HeaderFault.{is_within, natural};
 ghost use Rattle.gd_format.specs.Avail.{Avail, raw_avail_at, raw_extent_at, count_at, next_at, avail_size, is_extent_right, is_extent_right_at, is_avail, extent_at, avail_at};
 ghost use Rattle.gd_layout.specs.Answers.{Refuses};
+ghost use Rattle.gd_layout.specs.Fits.{FitsExtent};
 
 use crate::bucket::{LayoutError, extent_from};
 use crate::fields::{i32_from, i64_from};
@@ -80,6 +81,28 @@ impl AvailBlock {
         let _ = self.extents.push(extent);
     }
 
+    /// How many extents it has room for.
+    pub fn room(&self) -> u32
+        ensures is { result ≡ self.now.room }
+        ensures most { length self.now.extents ≤ result }
+    {
+        self.room
+    }
+
+    /// Keeps the first n extents.
+    pub fn truncate(&mut self, n: usize)
+        ensures { self.new ≡ record self.old { extents = take n self.old.extents } }
+    {
+        self.extents.truncate(n);
+    }
+
+    /// Takes out all extents.
+    pub fn clear(&mut self)
+        ensures { self.new ≡ record self.old { extents = [] } }
+    {
+        self.extents.clear();
+    }
+
     /// Takes out the extent at a place. Those after it move down by one place.
     pub fn remove(&mut self, place: u32) -> Extent
         requires { place < length self.old.extents }
@@ -98,20 +121,6 @@ pub fn has_right_extent(raw: &RawExtent) -> bool
     raw.size > 0 && raw.at >= 0
 }
 
-// The extent at a place of a block of free space, where it is right.
-#[tactic(auto, unfolding(gd_format::specs::Avail::is_extent_right_at, gd_format::specs::Avail::extent_at))]
-fn right_extent(bytes: &[u8], place: u32) -> Option<Extent>
-    requires { avail_size (place + 1) ≤ length bytes.now }
-    ensures none { IfNone result (is_extent_right_at bytes.now place ≡ false) }
-    ensures some { IfSome result (λ e. (is_extent_right_at bytes.now place ≡ true) × (e ≡ extent_at bytes.now place)) }
-{
-    let raw = Native::raw_extent(bytes, place);
-    if !has_right_extent(&raw) {
-        return None;
-    }
-    Some(extent_from(&raw))
-}
-
 // How many extents a block of free space has, where they are from 0 to `most`.
 fn count_from(bytes: &[u8], most: u32) -> Option<u32>
     requires { 16 ≤ length bytes.now }
@@ -125,24 +134,31 @@ fn count_from(bytes: &[u8], most: u32) -> Option<u32>
     Some(count.cast_unsigned())
 }
 
-// The first n extents of a block of free space, with room for more, where each is right.
-#[tactic(auto, using(gd_format::proofs::Firsts::list_below_more, gd_format::proofs::Firsts::all_below_more, gd_format::proofs::Firsts::all_below_stops))]
-fn extents_from(alloc: Global, bytes: &[u8], n: u32, most: u32) -> Result<Vec<Extent>, LayoutError>
-    requires few { n ≤ most }
-    requires size { avail_size n ≤ length bytes.now }
-    ensures ok { IfOk result (λ v. (v.items ≡ list_below n (extent_at bytes.now)) × (all_below n (is_extent_right_at bytes.now) ≡ true)) }
-    ensures length { IfOk result (λ v. length v.items ≤ most) }
-    ensures room { IfOk result (λ v. most ≤ vec_capacity v) }
-    ensures bad { IfErr result (Refuses (all_below n (is_extent_right_at bytes.now) ≡ false)) }
+// Is each of the first n extents of a block of free space right?
+#[tactic(auto, using(gd_format::proofs::Firsts::all_below_more, gd_format::proofs::Firsts::all_below_stops), unfolding(gd_format::specs::Avail::is_extent_right_at))]
+fn are_extents_right(bytes: &[u8], n: u32) -> bool
+    requires { avail_size n ≤ length bytes.now }
+    ensures { result ≡ all_below n (is_extent_right_at bytes.now) }
 {
-    let mut extents = Vec::with_capacity(alloc, most as usize)?;
     for e in 0..n {
-        let Some(extent) = right_extent(bytes, e) else {
-            return Err(LayoutError::Bad);
-        };
-        extents.push(extent)?;
+        if !has_right_extent(&Native::raw_extent(bytes, e)) {
+            return false;
+        }
     }
-    Ok(extents)
+    true
+}
+
+// Puts the first n extents of a block of free space into one that has none.
+#[tactic(auto, using(gd_format::proofs::Firsts::list_below_more), unfolding(gd_format::specs::Avail::extent_at))]
+fn put_first(bytes: &[u8], n: u32, into: &mut AvailBlock)
+    requires empty { into.old.extents ≡ [] }
+    requires room { n ≤ into.old.room }
+    requires size { avail_size n ≤ length bytes.now }
+    ensures { into.new ≡ record into.old { extents = list_below n (extent_at bytes.now) } }
+{
+    for e in 0..n {
+        into.push(extent_from(&Native::raw_extent(bytes, e)));
+    }
 }
 
 impl Layout<8, 0> {
@@ -175,21 +191,44 @@ impl Layout<8, 0> {
     /// Reads a block of free space of `most` extents at most, with the room for so many.
     ///
     /// The address of the next block is not judged: one below 0 stands as the same bits read without a sign.
-    #[tactic(auto, unfolding(gd_format::specs::Avail::is_avail, gd_format::specs::Avail::avail_at, gd_format::specs::Avail::next_at))]
     pub fn read_avail(alloc: Global, bytes: &[u8], most: u32) -> Result<AvailBlock, LayoutError>
         requires head { 16 ≤ length bytes.now }
         requires extents { is_within (count_at bytes.now) 0 most ≡ true → avail_size (natural (count_at bytes.now)) ≤ length bytes.now }
         ensures ok { IfOk result (λ a. (a ≡ avail_at bytes.now most) × (is_avail bytes.now most ≡ true)) }
+        ensures fit { IfOk result (λ a. All FitsExtent a.extents) }
         ensures bad { IfErr result (Refuses (is_avail bytes.now most ≡ false)) }
     {
-        let Some(n) = count_from(bytes, most) else {
-            return Err(LayoutError::Bad);
+        let Ok(mut avail) = AvailBlock::new(alloc, most) else {
+            return Err(LayoutError::OutOfMemory);
         };
-        let extents = extents_from(alloc, bytes, n, most)?;
-        Ok(AvailBlock {
-            next_block: Native::raw_avail(bytes).next_block.cast_unsigned(),
-            extents,
-            room: most,
-        })
+        if !Native::read_avail_into(bytes, &mut avail) {
+            return Err(LayoutError::Bad);
+        }
+        Ok(avail)
+    }
+
+    /// Reads a block of free space into one that has the room for it, and takes no memory.
+    ///
+    /// Where it has more extents than the room, or one that is not right, the answer is false, and nothing changes.
+    #[tactic(auto, unfolding(gd_format::specs::Avail::is_avail, gd_format::specs::Avail::avail_at, gd_format::specs::Avail::next_at))]
+    pub fn read_avail_into(bytes: &[u8], into: &mut AvailBlock) -> bool
+        requires head { 16 ≤ length bytes.now }
+        requires extents { is_within (count_at bytes.now) 0 into.old.room ≡ true → avail_size (natural (count_at bytes.now)) ≤ length bytes.now }
+        ensures is { result ≡ is_avail bytes.now into.old.room }
+        ensures read { result ≡ true → into.new ≡ avail_at bytes.now into.old.room }
+        ensures fit { result ≡ true → All FitsExtent into.new.extents }
+        ensures kept { result ≡ false → into.new ≡ into.old }
+        ensures room { into.new.room ≡ into.old.room }
+    {
+        let Some(n) = count_from(bytes, into.room()) else {
+            return false;
+        };
+        if !are_extents_right(bytes, n) {
+            return false;
+        }
+        into.clear();
+        put_first(bytes, n, into);
+        into.set_next_block(Native::raw_avail(bytes).next_block.cast_unsigned());
+        true
     }
 }

@@ -57,7 +57,8 @@ fn block_size_of(block: i32) -> Option<u32>
     if n.is_power_of_two() { Some(n) } else { None }
 }
 
-fn place_of_table(magic: u32) -> u32
+/// The place of the table of free space, by the magic.
+pub fn place_of_table(magic: u32) -> u32
     ensures is { result ≡ table_place magic }
     ensures below { result ≤ 72 }
 {

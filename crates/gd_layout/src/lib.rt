@@ -7,8 +7,12 @@ mod avail;
 mod bucket;
 mod entries;
 mod fields;
+mod front;
+#[cfg(test)]
+mod front_tests;
 mod hashing;
 mod header;
+mod laws;
 #[cfg(test)]
 mod tests;
 mod writing;
@@ -17,6 +21,7 @@ pub use crate::avail::{AvailBlock, has_right_extent};
 pub use crate::bucket::{Bucket, LayoutError};
 pub use crate::fields::{i32_from, i64_from, u32_from, u64_from};
 pub use crate::hashing::{hash, hash_end, hash_more, hash_start};
+pub use crate::laws::header_fits;
 pub use crate::writing::{full_count, is_full};
 pub use gd_base::{DbError, Format};
 pub use gd_format::{Counts, Extent, Header, RawAvail, RawExtent, RawSlot, Slot};

@@ -1,31 +1,33 @@
 //! Writing a bucket into its block.
 
-ghost use Rattle.std.specs.Prelude.{◌≡◌, ◌+◌, ◌*◌, ◌^◌, ◌<◌, ◌≤◌, true, length, take};
+ghost use Rattle.std.specs.Prelude.{◌≡◌, ◌+◌, ◌*◌, ◌^◌, ◌<◌, ◌≤◌, true, length, take, drop};
 ghost use Rattle.std.specs.Int.{w32, w64, cast_signed};
 ghost use Rattle.std.specs.List.{All};
 ghost use Rattle.gd_format.specs.Field.{bytes_at, u32_at, u64_at};
-ghost use Rattle.gd_format.specs.Bucket.{slot_of, extent_of, is_slot_signed_right, free_at, slots_at, are_slots_right, bucket_at, is_bucket};
+ghost use Rattle.gd_format.specs.Bucket.{slot_of, is_slot_signed_right, slots_at, are_slots_right, bucket_at, is_bucket};
 ghost use Rattle.gd_format.specs.File.{is_count_right};
 ghost use Rattle.gd_format.specs.Slots.{count, is_full};
 ghost use Rattle.gd_layout.specs.Fits.{FitsFields};
-ghost use Rattle.gd_layout.specs.Writing.{raw_slot_from, raw_extent_from};
+ghost use Rattle.gd_layout.specs.Writing.{ArePut, IsPut, raw_slot_from};
 
 use crate::{Bucket, Layout};
 use byteorder::{ByteOrder, LittleEndian};
 use gd_format::{Extent, Slot};
 
-fn put_u32(block: &mut [u8], at: usize, n: u32)
+pub fn put_u32(block: &mut [u8], at: usize, n: u32)
     requires { at + 4 ≤ length block.old }
     ensures reads { u32_at block.new at ≡ n }
     ensures front { take at block.new ≡ take at block.old }
+    ensures back { drop (at + 4) block.new ≡ drop (at + 4) block.old }
 {
     LittleEndian::write_u32(&mut block[at..], n);
 }
 
-fn put_u64(block: &mut [u8], at: usize, n: u64)
+pub fn put_u64(block: &mut [u8], at: usize, n: u64)
     requires { at + 8 ≤ length block.old }
     ensures reads { u64_at block.new at ≡ n }
     ensures front { take at block.new ≡ take at block.old }
+    ensures back { drop (at + 8) block.new ≡ drop (at + 8) block.old }
 {
     LittleEndian::write_u64(&mut block[at..], n);
 }
@@ -64,13 +66,28 @@ fn put_slot(block: &mut [u8], at: usize, slot: &Slot)
     }
 }
 
+// Writes an extent, with zeros between its fields.
 fn put_extent(block: &mut [u8], at: usize, extent: &Extent)
     requires { at + 16 ≤ length block.old }
-    ensures reads { extent_of (raw_extent_from block.new at) ≡ extent.now }
+    ensures put { IsPut block.new at extent.now }
     ensures front { take at block.new ≡ take at block.old }
+    ensures back { drop (at + 16) block.new ≡ drop (at + 16) block.old }
 {
     put_u32(block, at, extent.size);
+    put_u32(block, at + 4, 0);
     put_u64(block, at + 8, extent.at);
+}
+
+// Writes extents, one after another, from a place on.
+pub fn put_extents(block: &mut [u8], at: usize, extents: &[Extent])
+    requires { at + 16 * length extents.now ≤ length block.old }
+    ensures put { ArePut block.new at extents.now }
+    ensures front { take at block.new ≡ take at block.old }
+    ensures back { drop (at + 16 * length extents.now) block.new ≡ drop (at + 16 * length extents.now) block.old }
+{
+    for (e, extent) in extents.iter().enumerate() {
+        put_extent(block, at + 16 * e, extent);
+    }
 }
 
 fn put_slots(block: &mut [u8], slots: &[Slot])
@@ -82,16 +99,6 @@ fn put_slots(block: &mut [u8], slots: &[Slot])
 {
     for (s, slot) in slots.iter().enumerate() {
         put_slot(block, 112 + 24 * s, slot);
-    }
-}
-
-fn put_free(block: &mut [u8], free: &[Extent])
-    requires { 8 + 16 * length free.now ≤ length block.old }
-    ensures reads { free_at block.new (length free.now) ≡ free.now }
-    ensures front { take 8 block.new ≡ take 8 block.old }
-{
-    for (e, extent) in free.iter().enumerate() {
-        put_extent(block, 8 + 16 * e, extent);
     }
 }
 
@@ -127,7 +134,7 @@ impl Layout<8, 0> {
     {
         into.fill(0);
         put_u32(into, 0, bucket.free().len() as u32);
-        put_free(into, bucket.free());
+        put_extents(into, 8, bucket.free());
         put_u32(into, 104, bucket.bits());
         put_u32(into, 108, full_count(bucket.slots()) as u32);
         put_slots(into, bucket.slots());

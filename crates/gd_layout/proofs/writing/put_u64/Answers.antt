@@ -1,5 +1,7 @@
-use Rattle.std.proofs.Common.{◌-◌, ◌≤◌, length, take, drop, ap, arith}
-use Rattle.gd_layout.proofs.Pieces.{put_8}
+use Rattle.std.proofs.Common.{◌-◌, ◌≤◌, length, take, drop, refl, ap, arith}
+use Rattle.byteorder.specs.Endian.{little_bytes}
+use Rattle.byteorder.specs.Numbers.{length-bytes_low_first}
+use Rattle.gd_layout.proofs.Pieces.{put_8, put-back}
 use Rattle.gd_layout.proofs.writing.put_u64.Goals as goal
 
 pub returns-clause-reads : goal.returns-clause-reads
@@ -9,3 +11,6 @@ returns-clause-reads c =
     let buf = c.write_u64.new.buf in
     let long : 8 ≤ length c.write_u64.new.buf = omega (arith, ap length c.write_u64.ensures) in
     put_8 c.args.at _ c.args.n c.args.block.now c.write_u64.new.buf (drop 8 (take (length c.args.block.now - c.args.at) (drop c.args.at c.args.block.now))) (omega arith) long c.write_u64.ensures (omega arith)
+
+pub returns-clause-back : goal.returns-clause-back
+returns-clause-back c = put-back c.args.at _ 8 c.args.block.now c.write_u64.new.buf (little_bytes 8 c.args.n) (omega arith) refl (length-bytes_low_first 0 8 c.args.n) c.write_u64.ensures
