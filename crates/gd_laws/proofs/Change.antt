@@ -20,7 +20,7 @@ use Rattle.gd_parts.proofs.Made.{bits_within}
 use Rattle.gd_laws.specs.Lookup.{index_of}
 use Rattle.gd_laws.specs.Slots.{is_good, is_place_in, is_slot_key}
 use Rattle.gd_laws.specs.Update.{IsSameShape, OneKeyChange}
-use Rattle.gd_laws.specs.Space.{one_if, free_in, free_of, bucket_cover, sum_of, all_cover, grown, IsSpaceRight}
+use Rattle.gd_laws.specs.Space.{one_if, free_in, free_of, bucket_cover, sum_of, all_cover, grown, IsSpaceRight, SpaceChange}
 use Rattle.gd_laws.specs.Frame.{KeepsBut, Stays}
 use Rattle.gd_laws.specs.Change.{place_of, IsSoundFile, ChangeMade, AreComing, KeyChanged, RecordMade, slot_made}
 use Rattle.gd_laws.proofs.Lookup.{index_below}
@@ -57,11 +57,11 @@ module _ (file : List ℕ) (h h' : Header) (shape : IsSameShape h h') where
   first_shape : (j : ℕ) → is_first file h' j ≡ is_first file h j
   first_shape j = same_first file h h' shape j
 
-  bucket_shape : (b j : ℕ) → bucket_cover file h' b j ≡ bucket_cover file h b j
+  pub bucket_shape : (b j : ℕ) → bucket_cover file h' b j ≡ bucket_cover file h b j
   unfolding bucket_cover free_of
   bucket_shape b j = rw (entry_shape file h h' shape j, block_shape file h h' shape j, shape.block, shape.elems) refl
 
-  all_shape : (pool : List Extent) (b : ℕ) → all_cover file h' pool b ≡ all_cover file h pool b
+  pub all_shape : (pool : List Extent) (b : ℕ) → all_cover file h' pool b ≡ all_cover file h pool b
   unfolding all_cover
   all_shape pool b =
       let s = sum_same (is_first file h') (is_first file h) (bucket_cover file h' b) (bucket_cover file h b) (entries_of h) (λ j lt. first_shape j) (λ j lt p. bucket_shape b j) in
@@ -96,18 +96,20 @@ module _ (old new : List ℕ) (h : Header) (key : List ℕ) (next next' : ℕ) (
       let whole : 31 - h.dir_bits + (h.dir_bits - bits_at (block_of old h (index_of h key))) ≡ 31 - bits_at (block_of old h (index_of h key)) = omega arith in
       sym (shr-shr (hash_of key) (31 - h.dir_bits) (h.dir_bits - bits_at (block_of old h (index_of h key))) ∙ ap (λ (x : ℕ). hash_of key / 2 ^ x) whole)
 
-  space_now : IsSpaceRight new h next' pool'
+  pub space_change : SpaceChange old new h (index_of h key) gone come rest next next' pool pool'
   unfolding free_of
-  space_now =
-      space_changed old new h (index_of h key) gone come rest next next' pool pool' li sound.space
-      (record {
+  space_change =
+      record {
         entries = still.entries;
         others = λ j lj ne. (still.others j lj ne).block;
         before_is = made.bucket.before;
         after_is = rw block_reads made.bucket.after;
         grows = made.space.grows;
         moves = λ b. let m = made.space.moves b in let f = ap (λ (x : List ℕ). cover (free_in x) b) block_reads in omega (arith, m, f);
-      })
+      }
+
+  pub space_now : IsSpaceRight new h next' pool'
+  space_now = space_changed old new h (index_of h key) gone come rest next next' pool pool' li sound.space space_change
 
   module _ (value : Option (List ℕ)) (coming : AreComing old new h key value come) where
     change : OneKeyChange old new h (index_of h key) key value gone come rest

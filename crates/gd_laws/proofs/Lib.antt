@@ -15,6 +15,8 @@ pub mod Maps
 pub mod Side
 pub mod Sounds
 pub mod Whole
+pub mod Sums
+pub mod WholeSplit
 pub mod DoubleSpace
 pub mod Split
 pub mod Double

@@ -1,8 +1,9 @@
 -- A write that may pass the file's end.
-use Rattle.std.proofs.Common.{◌≡◌, ℕ, ◌+◌, ◌-◌, List, ◌++◌, length, take, drop, replicate, max, refl, ap, ◌∙◌, arith, length-append, length-drop, append_assoc}
+use Rattle.std.proofs.Common.{◌≡◌, ℕ, ◌+◌, ◌-◌, ◌<◌, ◌≤◌, List, ◌++◌, length, take, drop, replicate, max, refl, ap, ◌∙◌, arith, length-append, length-drop, append_assoc}
 use Rattle.std.proofs.lemmas.List.{length-replicate, length-take-le, take_at, drop_at}
 use Rattle.gd_format.specs.Field.{bytes_at}
 use Rattle.gd_parts.specs.Frame.{written}
+use Rattle.gd_laws.specs.Frame.{KeepsBut}
 
 front_size : (file : List ℕ) (at : ℕ) → length (take at (file ++ replicate (at - length file) 0)) ≡ at
 front_size file at =
@@ -26,3 +27,7 @@ unfolding written
 written_size file at bs =
     let front = front_size file at in
     omega (arith, length-append (take at (file ++ replicate (at - length file) 0) ++ bs) (drop (at + length bs) file), length-append (take at (file ++ replicate (at - length file) 0)) bs, length-drop (at + length bs) file, front)
+
+pub written_stays : (touched : ℕ → ℕ) (file new : List ℕ) (at : ℕ) (bs : List ℕ) → KeepsBut touched (written file at bs) new → ((b : ℕ) → at ≤ b → b < at + length bs → touched b ≡ 0) → bytes_at new at (length bs) ≡ bs
+written_stays touched file new at bs keeps free =
+    keeps.bytes at (length bs) (let n = written_size file at bs in omega (arith, n)) free ∙ written_reads file at bs

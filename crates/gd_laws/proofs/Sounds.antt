@@ -307,7 +307,7 @@ module _ (file : List ℕ) (h : Header) (blocks : List StackBlock) (sound : IsSo
   whole : IsWholeStack file (most_of h) (top_of file h) blocks
   whole = record { stack = sound.stack; distinct = distinct_apart blocks stack_once }
 
-  pool_is : pool_of file h ≡ extents_at (table_of file h) ++ stack_extents blocks
+  pub pool_is : pool_of file h ≡ extents_at (table_of file h) ++ stack_extents blocks
   unfolding pool_of
   pool_is = ap (λ (l : List Extent). extents_at (table_of file h) ++ l) (shown file (most_of h) (top_of file h) blocks whole).extents
 

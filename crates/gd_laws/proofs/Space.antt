@@ -97,7 +97,7 @@ module _ (old new : List ℕ) (h : Header) (i : ℕ) (gone come rest : List Slot
       rw e (omega (arith, before, after, x, y))
 
   -- the whole
-  whole : all_cover new h pool' b + cover (free_of old h i) b + count (slot_has b) gone + cover pool b ≡ all_cover old h pool b + cover (free_of new h i) b + count (slot_has b) come + cover pool' b
+  pub whole : all_cover new h pool' b + cover (free_of old h i) b + count (slot_has b) gone + cover pool b ≡ all_cover old h pool b + cover (free_of new h i) b + count (slot_has b) come + cover pool' b
   unfolding all_cover
   whole =
       let first = first_of_entry old h (entries_of h) i li in

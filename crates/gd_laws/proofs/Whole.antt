@@ -34,12 +34,12 @@ pub readable_of : (file : List ℕ) → IsSound file → IsReadable file
 readable_of file sound = let s = sound_parts file sound in made_readable file (record { header = s.header; parts = s.parts })
 
 -- a bucket's free extents are right by its block
-same_free : (old new : List ℕ) (h h' : Header) (at : ℕ) → bytes_at new at h'.block ≡ bytes_at old at h.block → is_free_right new h' at ≡ is_free_right old h at
+pub same_free : (old new : List ℕ) (h h' : Header) (at : ℕ) → bytes_at new at h'.block ≡ bytes_at old at h.block → is_free_right new h' at ≡ is_free_right old h at
 unfolding is_free_right
 same_free old new h h' at e = rw e refl
 
 module _ (old new : List ℕ) (key : List ℕ) (blocks : List StackBlock) (gone come rest : List Slot) (sound : IsSound old) (wrote : ChangeWritten old new key blocks gone come rest) where
-  file_of : IsSoundFile old (header_of (front_of old)) (header_of (front_of old)).next_block (pool_of old (header_of (front_of old)))
+  pub file_of : IsSoundFile old (header_of (front_of old)) (header_of (front_of old)).next_block (pool_of old (header_of (front_of old)))
   file_of = let b = sound_blocks old sound in subst (λ (p : List Extent). IsSoundFile old (header_of (front_of old)) (header_of (front_of old)).next_block p) (sym b.2) b.1.file_is
 
   old_free : (j : ℕ) → j < entries_of (header_of (front_of old)) → is_free_right old (header_of (front_of old)) (natural (entry_at old (header_of (front_of old)) j)) ≡ true
@@ -82,7 +82,7 @@ module _ (old new : List ℕ) (key : List ℕ) (blocks : List StackBlock) (gone 
       (all_left (IsBelow (header_of (front_of new)).next_block) (extents_at (table_of new (header_of (front_of new)))) (stack_extents blocks) lists)
 
   module _ (value : Option (List ℕ)) (done : KeyChanged old new (header_of (front_of old)) (header_of (front_of new)) key value (header_of (front_of new)).next_block (extents_at (table_of new (header_of (front_of new))) ++ stack_extents blocks)) where
-    sound_by : IsSoundBy new (header_of (front_of new)) blocks
+    pub sound_by : IsSoundBy new (header_of (front_of new)) blocks
     sound_by = record { header = wrote.header; header_is = refl; file_is = done.sound; table = table_right; stack = wrote.side.stack; free = free_right }
 
     pub sound_now : IsSound new

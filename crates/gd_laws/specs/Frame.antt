@@ -1,5 +1,5 @@
 -- What writes leave: a byte that is not touched reads as it read.
-use Rattle.std.specs.Prelude.{◌≡◌, ◌≢◌, ℕ, ◌+◌, ◌*◌, ◌<◌, ◌≤◌, List, ◌++◌, length}
+use Rattle.std.specs.Prelude.{◌≡◌, ◌≢◌, ℕ, ◌+◌, ◌*◌, ◌<◌, ◌≤◌, List, ◌++◌, length, max}
 use Rattle.std.specs.List.{AllByRecursion}
 use Rattle.gd_format.specs.declared.Header.{Header}
 use Rattle.gd_format.specs.declared.Extent.{Extent}
@@ -42,6 +42,19 @@ KeepsJoin = (f g t : ℕ → ℕ) (a b c : List ℕ) → ((x : ℕ) → x < leng
 
 abbrev pub WriteKeeps : Type 0
 WriteKeeps = (file : List ℕ) (at : ℕ) (bs : List ℕ) → KeepsBut (λ b. one_if (has_byte (extent at (length bs)) b)) file (written file at bs)
+
+-- more may be touched
+abbrev pub KeepsMore : Type 0
+KeepsMore = (f t : ℕ → ℕ) (a b : List ℕ) → ((x : ℕ) → x < length a → t x ≡ 0 → f x ≡ 0) → KeepsBut f a b → KeepsBut t a b
+
+-- what was written reads there, and so it does after what doesn't touch it
+abbrev pub WrittenReads : Type 0
+WrittenReads =
+    (touched : ℕ → ℕ) (file new : List ℕ) (at : ℕ) (bs : List ℕ) → KeepsBut touched (written file at bs) new → ((b : ℕ) → at ≤ b → b < at + length bs → touched b ≡ 0)
+    → bytes_at new at (length bs) ≡ bs
+
+abbrev pub WrittenSize : Type 0
+WrittenSize = (file : List ℕ) (at : ℕ) (bs : List ℕ) → length (written file at bs) ≡ max (length file) (at + length bs)
 
 -- the same where the directory is touched too: all but the entries stays
 pub record StaysAside (old new : List ℕ) (h : Header) (i : ℕ) (rest : List Slot) : Type 0 where

@@ -12,3 +12,5 @@ pub mod Maps
 pub mod Side
 pub mod Sounds
 pub mod Whole
+pub mod Sums
+pub mod WholeSplit

@@ -5,7 +5,6 @@ use Rattle.gd_format.specs.declared.Slot.{Slot}
 use Rattle.gd_format.specs.declared.Slot.TheVariants.{Empty, Full}
 use Rattle.gd_format.specs.Hash.{hash_of}
 use Rattle.gd_format.specs.Bucket.{slots_at}
-use Rattle.gd_format.specs.HeaderFault.{}
 use Rattle.gd_format.specs.File.{IsReadable, block_of, records}
 use Rattle.gd_format.specs.Slots.{count, is_full, SameSlots}
 use Rattle.gd_parts.specs.Parts.{file_header}

@@ -3,7 +3,7 @@
 
 ghost use Rattle.gd_laws.specs.Change.{DeleteLaw, KeyLaw, StoreLaw};
 ghost use Rattle.gd_laws.specs.Find.{AbsentByProbes, PresentBySlot, SetSlots, GrownAdds, GrownIsExtent};
-ghost use Rattle.gd_laws.specs.Frame.{StaysLaw, KeepsJoin, WriteKeeps, StaysAsideLaw};
+ghost use Rattle.gd_laws.specs.Frame.{StaysLaw, KeepsJoin, KeepsMore, WriteKeeps, WrittenReads, WrittenSize, StaysAsideLaw};
 ghost use Rattle.gd_laws.specs.Lookup.{LookupExact, RecordsOnce};
 ghost use Rattle.gd_laws.specs.Maps.{MapsByLookup, SameMaps, MapWith, MapWithout};
 ghost use Rattle.gd_laws.specs.Overflow.{OverflowLaw, FullIsClose, OthersAreNotClose, CloseStays, FullHasBits};
@@ -13,8 +13,10 @@ ghost use Rattle.gd_laws.specs.Sounds.{BelowIsAvail, BelowIsRight, BlocksMakeSou
 ghost use Rattle.gd_laws.specs.Space.{SpaceLaw};
 ghost use Rattle.gd_laws.specs.Split.{SplitLaw, DoubleLaw};
 ghost use Rattle.gd_laws.specs.SplitSpace.{SplitSpaceLaw, DoubleSpaceLaw};
+ghost use Rattle.gd_laws.specs.Sums.{LostChanges, TotalChanges, TotalFits};
 ghost use Rattle.gd_laws.specs.Update.{SlotsLaw, FileLaw, OneKeyLaw};
 ghost use Rattle.gd_laws.specs.Whole.{DeleteKeepsSound, StoreKeepsSound};
+ghost use Rattle.gd_laws.specs.WholeSplit.{DoubleKeepsSound, SplitKeepsSound};
 
 /// A look-up among the records is one through hash, directory and bucket.
 pub fn lookup_is_exact()
@@ -52,7 +54,10 @@ pub fn space_change()
 pub fn what_stays()
     ensures stays { StaysLaw }
     ensures join { KeepsJoin }
+    ensures more { KeepsMore }
     ensures write { WriteKeeps }
+    ensures reads { WrittenReads }
+    ensures size { WrittenSize }
 {}
 
 /// A split keeps the map.
@@ -132,4 +137,17 @@ pub fn below_is_right()
 pub fn whole_changes()
     ensures store { StoreKeepsSound }
     ensures delete { DeleteKeepsSound }
+{}
+
+/// How many bytes the extents of a sound file have, and how many more a change of one key loses.
+pub fn sums_change()
+    ensures fits { TotalFits }
+    ensures total { TotalChanges }
+    ensures lost { LostChanges }
+{}
+
+/// A split and a doubling over a whole sound file: it stays sound, and its map stays.
+pub fn whole_splits()
+    ensures split { SplitKeepsSound }
+    ensures double { DoubleKeepsSound }
 {}

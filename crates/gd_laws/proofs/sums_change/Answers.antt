@@ -1,0 +1,10 @@
+use Rattle.gd_laws.proofs.Sums as sums
+use Rattle.gd_laws.proofs.sums_change.Goals as goal
+
+pub returns : goal.returns
+returns c =
+    record {
+      fits = sums.total_fits;
+      total = λ old new key blocks gone come rest sound sound_new wrote. sums.total_changes old new key blocks gone come rest sound wrote;
+      lost = λ old new key blocks gone come rest more sound sound_new wrote. sums.lost_changes old new key blocks gone come rest sound wrote more sound_new;
+    }
