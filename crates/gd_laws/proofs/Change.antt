@@ -152,7 +152,7 @@ module _ (old new : List ℕ) (h : Header) (key : List ℕ) (next next' : ℕ) (
 
 -- ---- the slot of a new record
 
-ends_by : (file : List ℕ) (at : ℕ) (xs : List ℕ) → bytes_at file at (length xs) ≡ xs → 0 < length xs → at + length xs ≤ length file
+pub ends_by : (file : List ℕ) (at : ℕ) (xs : List ℕ) → bytes_at file at (length xs) ≡ xs → 0 < length xs → at + length xs ≤ length file
 ends_by file at xs e some =
     let n : length (take (length xs) (drop at file)) ≡ length xs = ap length e in
     let m = length-take (length xs) (drop at file) in

@@ -1,7 +1,9 @@
 -- A look-up in a bucket by probing, and what changes of slots keep.
-use Rattle.std.proofs.Common.{◌≡◌, ℕ, zero, suc, ◌+◌, ◌-◌, ◌*◌, ◌%◌, ◌<◌, ◌≤◌, Bool, true, false, ◌&&◌, leb, ltb, List, [], ◌∷◌, length, get_or, set, Some, None, ◌⊎◌, refl, ap, ◌∙◌, inl, inr, arith}
-use Rattle.std.proofs.lemmas.Bool.{cases_lt}
-use Rattle.std.proofs.lemmas.Bool.Decides.{nat_tests}
+use Rattle.std.proofs.Common.{◌≡◌, ℕ, zero, suc, ◌+◌, ◌-◌, ◌*◌, ◌%◌, ◌<◌, ◌≤◌, Bool, true, false, ◌&&◌, leb, ltb, List, [], ◌∷◌, length, take, get_or, set, Some, None, ◌↔◌, ◌⊎◌, refl, ap, ◌∙◌, inl, inr, arith}
+use Rattle.std.specs.Prelude.{◌==◌, ◌^◌, nat_le}
+use Rattle.std.specs.Str.{bytes_eq}
+use Rattle.std.proofs.lemmas.Bool.{cases_lt, leb-true}
+use Rattle.std.proofs.lemmas.Bool.Decides.{nat_tests, Decides-eqb}
 use Rattle.std.proofs.lemmas.Nat.{mod_below}
 use Rattle.std.proofs.Math.Nat.{mod-eq_of_lt, add-mul-mod_self_left}
 use Rattle.std.proofs.lemmas.Slice.Eq.{bytes_eq-Decides}
@@ -10,15 +12,16 @@ use Rattle.gd_format.specs.declared.Slot.TheVariants.{Empty, Full}
 use Rattle.gd_format.specs.First.{all_below}
 use Rattle.gd_format.specs.Hash.{hash_of}
 use Rattle.gd_format.specs.Field.{bytes_at}
-use Rattle.gd_format.proofs.Firsts.{all_below-at}
+use Rattle.gd_format.proofs.Firsts.{all_below-at, and-true}
+use Rattle.gd_format.proofs.Pieces.{length-bytes_at}
 use Rattle.gd_format.specs.Slots.{count, is_full, hash_in, is_full_from, is_reached_in}
 use Rattle.gd_format.specs.Sound.{extent}
 use Rattle.gd_format.specs.Covers.{cover}
 use Rattle.gd_parts.proofs.Lists.{bool_cases}
 use Rattle.gd_laws.specs.Lookup.{lookup, has_key, slot_records}
-use Rattle.gd_laws.specs.Slots.{is_good, is_bad, AreSlotsRight}
+use Rattle.gd_laws.specs.Slots.{is_good, is_bad, is_place_in, is_slot_key, AreSlotsRight}
 use Rattle.gd_laws.specs.Space.{grown}
-use Rattle.gd_laws.specs.Find.{is_slot_of, probe}
+use Rattle.gd_laws.specs.Find.{is_slot_of, probe, AreKeyFields}
 use Rattle.gd_laws.proofs.Lists.{lookup-none}
 use Rattle.gd_laws.proofs.Slots.{not_false}
 use Rattle.gd_laws.proofs.Update.{count_records, slot_test, lookup_finds, has_pair}
@@ -146,3 +149,42 @@ pub grown_is_extent : (next next' b : ℕ) → next ≤ next' → cover (extent 
 grown_is_extent next next' b le =
     let e : next + (next' - next) ≡ next' = omega arith in
     rw e (omega arith)
+
+pub key_once : (file : List ℕ) (bits top elems : ℕ) (slots : List Slot) (key : List ℕ) → AreSlotsRight file bits top elems slots → count (is_slot_of file key) slots ≤ 1
+key_once file bits top elems slots key right = let o = right.once key in let e = count_key file key slots in omega (arith, o, e)
+
+none_counted : (key : List ℕ) (xs : List (List ℕ × List ℕ)) → lookup key xs ≡ None → count (has_key key) xs ≡ 0
+none_counted key [] e = refl
+none_counted key (x ∷ xs) e =
+    bool_cases (bytes_eq x.0 key)
+    (λ t. let bad : Some x.1 ≡ None = rw t at e in absurd cc)
+    (λ f. let rest : lookup key xs ≡ None = rw f at e in let ih = none_counted key xs rest in rw f (omega (arith, ih)))
+
+pub absent_by_count : (file : List ℕ) (slots : List Slot) (key : List ℕ) → (count (is_slot_of file key) slots ≡ 0) ↔ (lookup key (slot_records file slots) ≡ None)
+absent_by_count file slots key =
+    let e = count_key file key slots in (
+      λ z. lookup-none key (slot_records file slots) (omega (arith, e, z)),
+      λ n. let c = none_counted key (slot_records file slots) n in omega (arith, e, c),
+    )
+
+key_size : (file : List ℕ) (at k v : ℕ) → is_place_in (length file) at (k + v) ≡ true → length (bytes_at file at k) ≡ k
+unfolding is_place_in
+key_size file at k v e =
+    bool_cases (k + v == 0)
+    (λ t. let z : k + v ≡ 0 = (Decides-eqb (k + v) 0).0 t in let none : k ≡ 0 = omega (arith, z) in rw none refl)
+    (λ f.
+    let fits : nat_le (at + (k + v)) (length file) ≡ true = rw f at (and-true (nat_le (k + v) (2 ^ 30)) _ e).1 in
+    length-bytes_at file at k (let l = leb-true (at + (k + v)) (length file) fits in omega (arith, l)))
+
+pub fields_of_key : (file : List ℕ) (bits top elems : ℕ) (slots : List Slot) (key : List ℕ) (s hash : ℕ) (start : List ℕ) (at k v : ℕ) → AreSlotsRight file bits top elems slots → s < length slots → get_or slots s Empty ≡ Full hash start at k v → bytes_at file at k ≡ key → AreKeyFields key hash start k
+unfolding is_slot_key
+fields_of_key file bits top elems slots key s hash start at k v right lt is_slot is_key =
+    let good : is_good file bits top (Full hash start at k v) ≡ true = rw is_slot at (not_false _ (count_zero_at (is_bad file bits top) slots Empty s right.good lt)) in
+    let a = and-true (is_place_in (length file) at (k + v)) _ good in
+    let b = and-true _ (bytes_eq (take 4 (bytes_at file at k)) (take (length (take 4 (bytes_at file at k))) start)) a.1 in
+    let c = and-true (hash == hash_of (bytes_at file at k)) _ b.0 in
+    record {
+      hash_is = (Decides-eqb hash (hash_of (bytes_at file at k))).0 c.0 ∙ ap hash_of is_key;
+      size_is = let n = key_size file at k v a.0 in let m = ap length is_key in omega (arith, n, m);
+      start_is = rw is_key at b.1;
+    }

@@ -17,6 +17,7 @@ pub mod Sounds
 pub mod Whole
 pub mod Sums
 pub mod WholeSplit
+pub mod Writes
 pub mod DoubleSpace
 pub mod Split
 pub mod Double

@@ -1,11 +1,11 @@
 -- A look-up in a bucket by probing, and what changes of slots keep.
-use Rattle.std.specs.Prelude.{◌≡◌, ℕ, ◌+◌, ◌-◌, ◌%◌, ◌<◌, ◌≤◌, ◌⊎◌, Bool, false, List, [], ◌∷◌, length, get_or, set, Some, None}
+use Rattle.std.specs.Prelude.{◌≡◌, ℕ, ◌+◌, ◌-◌, ◌%◌, ◌<◌, ◌≤◌, ◌↔◌, ◌⊎◌, Bool, true, false, List, [], ◌∷◌, length, take, get_or, set, Some, None}
 use Rattle.std.specs.Str.{bytes_eq}
 use Rattle.gd_format.specs.declared.Slot.{Slot}
 use Rattle.gd_format.specs.declared.Slot.TheVariants.{Empty, Full}
 use Rattle.gd_format.specs.Hash.{hash_of}
 use Rattle.gd_format.specs.Field.{bytes_at}
-use Rattle.gd_format.specs.Slots.{is_full, SameSlots}
+use Rattle.gd_format.specs.Slots.{count, is_full, SameSlots}
 use Rattle.gd_format.specs.Sound.{extent}
 use Rattle.gd_format.specs.Covers.{cover}
 use Rattle.gd_laws.specs.Lookup.{lookup, slot_records}
@@ -33,6 +33,25 @@ PresentBySlot =
     (file : List ℕ) (bits top elems : ℕ) (slots : List Slot) (key : List ℕ) (s hash : ℕ) (start : List ℕ) (at k v : ℕ) → AreSlotsRight file bits top elems slots
     → s < length slots → get_or slots s Empty ≡ Full hash start at k v → bytes_at file at k ≡ key
     → lookup key (slot_records file slots) ≡ Some (bytes_at file (at + k) v)
+
+-- a key is that of one slot at most
+abbrev pub KeyOnce : Type 0
+KeyOnce = (file : List ℕ) (bits top elems : ℕ) (slots : List Slot) (key : List ℕ) → AreSlotsRight file bits top elems slots → count (is_slot_of file key) slots ≤ 1
+
+-- where it is that of none, the look-up gives nothing, and the other way round
+abbrev pub AbsentByCount : Type 0
+AbsentByCount = (file : List ℕ) (slots : List Slot) (key : List ℕ) → (count (is_slot_of file key) slots ≡ 0) ↔ (lookup key (slot_records file slots) ≡ None)
+
+-- the slot of a key has its hash, its length and its first bytes
+pub record AreKeyFields (key : List ℕ) (hash : ℕ) (start : List ℕ) (k : ℕ) : Type 0 where
+  pub hash_is : hash ≡ hash_of key
+  pub size_is : k ≡ length key
+  pub start_is : bytes_eq (take 4 key) (take (length (take 4 key)) start) ≡ true
+
+abbrev pub FieldsOfKey : Type 0
+FieldsOfKey =
+    (file : List ℕ) (bits top elems : ℕ) (slots : List Slot) (key : List ℕ) (s hash : ℕ) (start : List ℕ) (at k v : ℕ) → AreSlotsRight file bits top elems slots
+    → s < length slots → get_or slots s Empty ≡ Full hash start at k v → bytes_at file at k ≡ key → AreKeyFields key hash start k
 
 -- one place that is set
 abbrev pub SetSlots : Type 0

@@ -14,3 +14,4 @@ pub mod Sounds
 pub mod Whole
 pub mod Sums
 pub mod WholeSplit
+pub mod Writes

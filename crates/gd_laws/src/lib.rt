@@ -2,7 +2,7 @@
 #![tactic(auto)]
 
 ghost use Rattle.gd_laws.specs.Change.{DeleteLaw, KeyLaw, StoreLaw};
-ghost use Rattle.gd_laws.specs.Find.{AbsentByProbes, PresentBySlot, SetSlots, GrownAdds, GrownIsExtent};
+ghost use Rattle.gd_laws.specs.Find.{AbsentByCount, AbsentByProbes, FieldsOfKey, KeyOnce, PresentBySlot, SetSlots, GrownAdds, GrownIsExtent};
 ghost use Rattle.gd_laws.specs.Frame.{StaysLaw, KeepsJoin, KeepsMore, WriteKeeps, WrittenReads, WrittenSize, StaysAsideLaw};
 ghost use Rattle.gd_laws.specs.Lookup.{LookupExact, RecordsOnce};
 ghost use Rattle.gd_laws.specs.Maps.{MapsByLookup, SameMaps, MapWith, MapWithout};
@@ -17,6 +17,7 @@ ghost use Rattle.gd_laws.specs.Sums.{LostChanges, TotalChanges, TotalFits};
 ghost use Rattle.gd_laws.specs.Update.{SlotsLaw, FileLaw, OneKeyLaw};
 ghost use Rattle.gd_laws.specs.Whole.{DeleteKeepsSound, StoreKeepsSound};
 ghost use Rattle.gd_laws.specs.WholeSplit.{DoubleKeepsSound, SplitKeepsSound};
+ghost use Rattle.gd_laws.specs.Writes.{WritesLaw};
 
 /// A look-up among the records is one through hash, directory and bucket.
 pub fn lookup_is_exact()
@@ -86,6 +87,9 @@ pub fn key_changes()
 pub fn steps_of_store()
     ensures absent { AbsentByProbes }
     ensures present { PresentBySlot }
+    ensures once { KeyOnce }
+    ensures fields { FieldsOfKey }
+    ensures none { AbsentByCount }
     ensures set { SetSlots }
     ensures grown { GrownIsExtent }
     ensures adds { GrownAdds }
@@ -150,4 +154,9 @@ pub fn sums_change()
 pub fn whole_splits()
     ensures split { SplitKeepsSound }
     ensures double { DoubleKeepsSound }
+{}
+
+/// What the last writes of a change of one key leave: the bucket's block, and the header's block.
+pub fn last_writes()
+    ensures { WritesLaw }
 {}
