@@ -1,0 +1,14 @@
+pub mod Elements
+pub mod Cuts
+pub mod Changes
+pub mod Tooks
+pub mod Writes
+pub mod Stacks
+pub mod Sides
+pub mod Pushes
+pub mod Dones
+pub mod BlockReads
+pub mod Fits
+pub mod Tables
+pub mod Gives
+pub mod Fills
