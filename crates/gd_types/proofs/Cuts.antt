@@ -38,8 +38,8 @@ pub value-step : (base : ℕ) (digits : List ℕ) (i v now : ℕ) → 1 ≤ base
     → now ≡ min (v * base + digit_value (get_or digits i 0)) (2 ^ 64) → now ≡ min (digits_value base (take (i + 1) digits)) (2 ^ 64)
 value-step base digits i v now low inside so_far step =
     step ∙ ap (λ (n : ℕ). min (n * base + digit_value (get_or digits i 0)) (2 ^ 64)) so_far
-        ∙ cut-step base (digits_value base (take i digits)) (digit_value (get_or digits i 0)) (2 ^ 64) low
-        ∙ ap (λ (n : ℕ). min n (2 ^ 64)) (sym (digits_value_more base digits i inside))
+    ∙ cut-step base (digits_value base (take i digits)) (digit_value (get_or digits i 0)) (2 ^ 64) low
+    ∙ ap (λ (n : ℕ). min n (2 ^ 64)) (sym (digits_value_more base digits i inside))
 
 -- no limit is above the cut
 limit-low : (w : ℕ) → is_width w ≡ true → (signed : Bool) → 2 ^ (if signed then 8 * w - 1 else 8 * w) ≤ 2 ^ 64
@@ -47,12 +47,15 @@ limit-low = by_width (λ w. (signed : Bool) → 2 ^ (if signed then 8 * w - 1 el
   one : (signed : Bool) → 2 ^ (if signed then 8 * 1 - 1 else 8 * 1) ≤ 2 ^ 64
   one true = lit≤ tt
   one false = lit≤ tt
+
   two : (signed : Bool) → 2 ^ (if signed then 8 * 2 - 1 else 8 * 2) ≤ 2 ^ 64
   two true = lit≤ tt
   two false = lit≤ tt
+
   four : (signed : Bool) → 2 ^ (if signed then 8 * 4 - 1 else 8 * 4) ≤ 2 ^ 64
   four true = lit≤ tt
   four false = lit≤ tt
+
   eight : (signed : Bool) → 2 ^ (if signed then 8 * 8 - 1 else 8 * 8) ≤ 2 ^ 64
   eight true = lit≤ tt
   eight false = lit≤ tt

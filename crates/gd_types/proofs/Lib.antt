@@ -2,4 +2,5 @@ mod Appending
 mod Cuts
 mod Finding
 mod Making
+mod Spreading
 mod Widths

@@ -1,11 +1,13 @@
 -- The text of a datum under a definition.
-use Rattle.std.specs.Prelude.{◌≡◌, ⊤, ℕ, ◌-◌, ◌==◌, nat_lt, if◌then◌else◌, List, [], ◌∷◌, ◌++◌, length, take, drop, Option, Some, None, Result, Ok, Err}
+use Rattle.std.specs.Prelude.{◌≡◌, ⊤, Bool, true, false, ℕ, ◌-◌, ◌==◌, nat_lt, if◌then◌else◌, List, [], ◌∷◌, ◌++◌, length, take, drop, slice_get, ℤ, Option, Some, None, Result, Ok, Err}
 use Rattle.std.specs.Fmt.{signed_decimal}
-use Rattle.std.specs.List.{flat_map, last_or}
+use Rattle.std.specs.List.{flat_map}
 use Rattle.gd_base.specs.Streams.{WritesFront, and_then}
 use Rattle.gd_types.specs.Members.{Defined, member_places, reached}
 use Rattle.gd_types.specs.Printing.{joined, printed}
 use Rattle.gd_types.specs.Rows.{Kind, Byte, Number, Rest, ZeroEnded, kind_of, number_in}
+use Rattle.gd_types.specs.declared.decoding.Value.{Value}
+use Rattle.gd_types.specs.declared.decoding.Value.TheVariants.{Bytes, Decimal}
 use Rattle.gd_types.specs.declared.errors.DecodeError.{DecodeError}
 use Rattle.gd_types.specs.declared.errors.DecodeError.TheVariants.{Typed, Failed}
 use Rattle.gd_types.specs.declared.errors.TypeError.{TypeError}
@@ -29,6 +31,9 @@ kind_fault Rest bytes = None
 kind_fault ZeroEnded bytes = zero_fault bytes
 kind_fault kind bytes = left_fault bytes
 
+abbrev pub last_member : List Member → Option Member
+last_member members = slice_get members (length members - 1)
+
 abbrev pub rest_fault : Option Member → List ℕ → Option TypeError
 rest_fault (Some (Row row)) bytes = kind_fault (kind_of row) bytes
 rest_fault last bytes = left_fault bytes
@@ -36,7 +41,7 @@ rest_fault last bytes = left_fault bytes
 -- the refusal of a datum, where it has one
 abbrev pub datum_fault : Defined → List ℕ → Option TypeError
 datum_fault d bytes = if nat_lt (length bytes) (reached d.members) then Some Short
-    else rest_fault (last_or None d.members) (drop (reached d.members) bytes)
+    else rest_fault (last_member d.members) (drop (reached d.members) bytes)
 
 -- the text of a value at the front of bytes
 abbrev pub kind_text : Kind → List ℕ → List ℕ
@@ -88,3 +93,8 @@ OnTyped (Err e) P = OfTyped e P
 abbrev pub OnFailed : Result (Unit {0}) DecodeError → Type 0 → Type 0
 OnFailed (Ok x) P = ⊤
 OnFailed (Err e) P = OfFailed e P
+
+-- what a value is printed as
+abbrev pub value_text : Value → List ℕ
+value_text (Bytes bytes) = printed bytes.now
+value_text (Decimal z) = signed_decimal z

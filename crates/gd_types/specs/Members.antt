@@ -45,6 +45,10 @@ has_value (Off place) = false
 has_value (Pad count) = false
 has_value member = true
 
+abbrev pub is_row : Member → Bool
+is_row (Row row) = true
+is_row member = false
+
 abbrev pub is_float : Member → Bool
 is_float Float = true
 is_float Double = true

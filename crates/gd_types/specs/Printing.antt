@@ -1,5 +1,5 @@
 -- Bytes as they are printed.
-use Rattle.std.specs.Prelude.{ℕ, ◌+◌, ◌/◌, ◌%◌, ◌==◌, ◌&&◌, ◌||◌, nat_le, if◌then◌else◌, List, [], ◌∷◌, ◌++◌}
+use Rattle.std.specs.Prelude.{ℕ, ◌+◌, ◌/◌, ◌%◌, ◌==◌, ◌&&◌, ◌||◌, nat_le, Bool, true, false, if◌then◌else◌, List, [], ◌∷◌, ◌++◌}
 use Rattle.std.specs.List.{flat_map}
 
 -- `"` and `\` behind a backslash, the others from 0x20 to 0x7e as they are, and else a backslash and three octal digits
@@ -15,3 +15,13 @@ printed bytes = flat_map printed_byte bytes
 abbrev pub joined : List ℕ → List (List ℕ) → List ℕ
 joined delim [] = []
 joined delim (text ∷ texts) = text ++ flat_map (λ t. delim ++ t) texts
+
+-- the texts that come behind others, or first
+abbrev pub spread : Bool → List ℕ → List (List ℕ) → List ℕ
+spread true delim texts = joined delim texts
+spread false delim texts = flat_map (λ t. delim ++ t) texts
+
+-- what stands before a text: nothing before the first one
+abbrev pub lead_of : Bool → List ℕ → List ℕ
+lead_of true delim = []
+lead_of false delim = delim

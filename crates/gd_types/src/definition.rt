@@ -2,7 +2,7 @@
 
 ghost use Rattle.std.specs.Prelude.{◌≡◌, ◌∷◌, ◌++◌, [], true, IfOk, OnOk, OnErr};
 ghost use Rattle.gd_types.specs.Encoding.{value_count};
-ghost use Rattle.gd_types.specs.Members.{accepts, has_float, is_made_from};
+ghost use Rattle.gd_types.specs.Members.{accepts, has_float, is_made_from, reached};
 
 use crate::Member;
 use gd_base::OutOfMemory;
@@ -91,6 +91,13 @@ impl Definition {
         ensures made { is_made_from 0 self.now.members ≡ true }
     {
         &self.members
+    }
+
+    /// The place behind the last member.
+    pub(crate) fn reached(&self) -> u64
+        ensures { result ≡ reached self.now.members }
+    {
+        self.reached
     }
 
     /// How many values there are.

@@ -114,11 +114,7 @@ fn words_after(member: Member, words: &[Datum]) -> &[Datum]
     }
 }
 
-fn encode_members(
-    alloc: Global,
-    members: &[Member],
-    words: &[Datum],
-) -> Result<Datum, EncodeError>
+fn encode_members(alloc: Global, members: &[Member], words: &[Datum]) -> Result<Datum, EncodeError>
     requires { is_made_from 0 members.now ≡ true }
     ensures { Encodes result (member_bytes 0 members.now words.now) }
 {

@@ -2,7 +2,7 @@
 
 ghost use Rattle.std.specs.Prelude.{◌≡◌, ◌≤◌, ◌^◌};
 ghost use Rattle.gd_types.specs.Rows.{kind_of, kind_width};
-ghost use Rattle.gd_types.specs.Members.{fits_at, goes_on, has_value, is_float, is_text, is_within, place_after};
+ghost use Rattle.gd_types.specs.Members.{fits_at, goes_on, has_value, is_float, is_row, is_text, is_within, place_after};
 
 use crate::rows::by_row;
 
@@ -73,6 +73,15 @@ impl Member {
         match self {
             Member::Off(_) | Member::Pad(_) => false,
             _ => true,
+        }
+    }
+
+    pub(crate) fn is_row(self) -> bool
+        ensures { result ≡ is_row self }
+    {
+        match self {
+            Member::Row(_) => true,
+            _ => false,
         }
     }
 

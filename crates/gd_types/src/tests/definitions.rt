@@ -1,18 +1,7 @@
+use super::defined;
 use crate::{Definition, Member, Words};
 use gd_base::Datum;
-use std::alloc::Global;
 use std::test::Fail;
-
-fn defined(alloc: Global, braces: bool, members: &[Member]) -> Result<Definition, Fail> {
-    let mut definition = Definition::new(alloc, braces);
-    for member in members {
-        if !definition.accepts(*member) {
-            return Err(Fail::from("a member that is not accepted"));
-        }
-        definition.push(*member)?;
-    }
-    Ok(definition)
-}
 
 #[test]
 fn members_are_accepted_by_their_places(rt: HostRuntime) -> Result<(), Fail> {
