@@ -47,7 +47,7 @@ pieces file at xs ys e = (
   ap (take (length ys)) (sym (drop-drop (length xs) at file)) ∙ sym (drop-take (length xs) (length ys) (drop at file)) ∙ ap (drop (length xs)) e ∙ drop_at xs ys (length xs) refl,
 )
 
-same_first : (file : List ℕ) (h h' : Header) → IsSameShape h h' → (j : ℕ) → is_first file h' j ≡ is_first file h j
+pub same_first : (file : List ℕ) (h h' : Header) → IsSameShape h h' → (j : ℕ) → is_first file h' j ≡ is_first file h j
 unfolding is_first is_other_entry
 same_first file h h' shape j =
     all_same j (is_other_entry file h' j) (is_other_entry file h j) (λ d. rw (entry_shape file h h' shape d, entry_shape file h h' shape j) refl)

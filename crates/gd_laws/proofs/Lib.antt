@@ -18,6 +18,8 @@ pub mod Whole
 pub mod Sums
 pub mod WholeSplit
 pub mod Writes
+pub mod NewFile
+pub mod Beside
 pub mod DoubleSpace
 pub mod Split
 pub mod Double

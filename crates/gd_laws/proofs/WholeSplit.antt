@@ -16,7 +16,7 @@ use Rattle.gd_laws.specs.Lookup.{value_at}
 use Rattle.gd_laws.specs.Update.{IsSameShape}
 use Rattle.gd_laws.specs.Space.{IsSpaceRight}
 use Rattle.gd_laws.specs.Change.{IsSoundFile}
-use Rattle.gd_laws.specs.Sounds.{pool_of, IsSoundBy}
+use Rattle.gd_laws.specs.Sounds.{pool_of}
 use Rattle.gd_laws.specs.Split.{SplitChange, DoubleChange}
 use Rattle.gd_laws.specs.SplitSpace.{SplitMoves, DoubleMoves}
 use Rattle.gd_laws.specs.WholeSplit.{SpaceWritten, IsKept}
@@ -32,27 +32,28 @@ use Rattle.gd_laws.proofs.Double.{double_stays, half_below}
 use Rattle.gd_laws.proofs.DoubleSpace.{double_space_right}
 use Rattle.gd_laws.proofs.Whole.{readable_of, same_free}
 
-file_is : (old : List ℕ) → IsSound old → IsSoundFile old (header_of (front_of old)) (header_of (front_of old)).next_block (pool_of old (header_of (front_of old)))
+pub file_is : (old : List ℕ) → IsSound old → IsSoundFile old (header_of (front_of old)) (header_of (front_of old)).next_block (pool_of old (header_of (front_of old)))
 file_is old sound = let b = sound_blocks old sound in subst (λ (p : List Extent). IsSoundFile old (header_of (front_of old)) (header_of (front_of old)).next_block p) (sym b.2) b.1.file_is
 
-old_free : (old : List ℕ) → IsSound old → (j : ℕ) → j < entries_of (header_of (front_of old)) → is_free_right old (header_of (front_of old)) (natural (entry_at old (header_of (front_of old)) j)) ≡ true
+pub old_free : (old : List ℕ) → IsSound old → (j : ℕ) → j < entries_of (header_of (front_of old)) → is_free_right old (header_of (front_of old)) (natural (entry_at old (header_of (front_of old)) j)) ≡ true
 old_free old sound = let b = sound_blocks old sound in b.1.free
 
--- a sound file whose look-ups agree
-kept_by : (old new : List ℕ) (blocks : List StackBlock) → IsSound old → SpaceWritten new blocks → HasParts new (header_of (front_of new)) → IsSpaceRight new (header_of (front_of new)) (header_of (front_of new)).next_block (extents_at (table_of new (header_of (front_of new))) ++ stack_extents blocks) → ((j : ℕ) → j < entries_of (header_of (front_of new)) → is_free_right new (header_of (front_of new)) (natural (entry_at new (header_of (front_of new)) j)) ≡ true) → ((key : List ℕ) → value_at new (header_of (front_of new)) key ≡ value_at old (header_of (front_of old)) key) → IsKept old new
-kept_by old new blocks sound wrote parts space free same =
+pub sound_from : (new : List ℕ) (blocks : List StackBlock) → SpaceWritten new blocks → HasParts new (header_of (front_of new)) → IsSpaceRight new (header_of (front_of new)) (header_of (front_of new)).next_block (extents_at (table_of new (header_of (front_of new))) ++ stack_extents blocks) → ((j : ℕ) → j < entries_of (header_of (front_of new)) → is_free_right new (header_of (front_of new)) (natural (entry_at new (header_of (front_of new)) j)) ≡ true) → IsSound new
+sound_from new blocks wrote parts space free =
     let sizes = header_in (front_of new) (length new) wrote.header in
-    let by : IsSoundBy new (header_of (front_of new)) blocks =
-    record {
+    makes_sound new (header_of (front_of new)) blocks
+    (record {
       header = wrote.header;
       header_is = refl;
       file_is = record { bits = sizes.bits; dir = sizes.dir; short = wrote.short; parts = parts; space = space };
       table = wrote.table;
       stack = wrote.stack;
       free = free;
-    } in
-    let now = makes_sound new (header_of (front_of new)) blocks by in
-    (now, same_maps (records old) (records new) (λ k. lookup_exact new (readable_of new now) k ∙ same k ∙ sym (lookup_exact old (readable_of old sound) k)))
+    })
+
+-- a sound file whose look-ups agree
+kept_by : (old new : List ℕ) → IsSound old → IsSound new → ((key : List ℕ) → value_at new (header_of (front_of new)) key ≡ value_at old (header_of (front_of old)) key) → IsKept old new
+kept_by old new sound now same = (now, same_maps (records old) (records new) (λ k. lookup_exact new (readable_of new now) k ∙ same k ∙ sym (lookup_exact old (readable_of old sound) k)))
 
 module _ (old new : List ℕ) (blocks : List StackBlock) (i at bits half q : ℕ) (sound : IsSound old) (li : i < entries_of (header_of (front_of old))) (wrote : SpaceWritten new blocks) (shape : IsSameShape (header_of (front_of old)) (header_of (front_of new))) (change : SplitChange old new (header_of (front_of old)) i at bits half q) (moves : SplitMoves old new (header_of (front_of old)) i at (header_of (front_of old)).next_block (header_of (front_of new)).next_block (pool_of old (header_of (front_of old))) (extents_at (table_of new (header_of (front_of new))) ++ stack_extents blocks)) (first : is_free_right new (header_of (front_of new)) (natural (entry_at old (header_of (front_of old)) i)) ≡ true) (second : is_free_right new (header_of (front_of new)) at ≡ true) where
   abbrev h : Header
@@ -84,7 +85,8 @@ module _ (old new : List ℕ) (blocks : List StackBlock) (i at bits half q : ℕ
       let file = file_is old sound in
       let stays = split_stays old new h i at bits half q file.bits file.parts li change in
       let space = split_space_right old new h i at bits half q h.next_block h'.next_block (pool_of old h) (extents_at (table_of new h') ++ stack_extents blocks) file.bits file.parts li change file.space moves in
-      kept_by old new blocks sound wrote (parts_shape new h h' shape stays.parts) (space_shape new h h' shape h'.next_block (extents_at (table_of new h') ++ stack_extents blocks) space) free_split
+      kept_by old new sound
+      (sound_from new blocks wrote (parts_shape new h h' shape stays.parts) (space_shape new h h' shape h'.next_block (extents_at (table_of new h') ++ stack_extents blocks) space) free_split)
       (λ key. value_shape new h h' shape key ∙ stays.map key)
 
 module _ (old new : List ℕ) (blocks : List StackBlock) (sound : IsSound old) (wrote : SpaceWritten new blocks) (change : DoubleChange old new (header_of (front_of old)) (header_of (front_of new))) (moves : DoubleMoves (header_of (front_of old)) (header_of (front_of new)) (header_of (front_of old)).next_block (header_of (front_of new)).next_block (pool_of old (header_of (front_of old))) (extents_at (table_of new (header_of (front_of new))) ++ stack_extents blocks)) where
@@ -107,4 +109,4 @@ module _ (old new : List ℕ) (blocks : List StackBlock) (sound : IsSound old) (
       let file = file_is old sound in
       let stays = double_stays old new (header_of (front_of old)) (header_of (front_of new)) bits_new file.parts change in
       let space = double_space_right old new (header_of (front_of old)) (header_of (front_of new)) (header_of (front_of old)).next_block (header_of (front_of new)).next_block (pool_of old (header_of (front_of old))) (extents_at (table_of new (header_of (front_of new))) ++ stack_extents blocks) bits_new file.parts change file.space moves in
-      kept_by old new blocks sound wrote stays.parts space free_double stays.map
+      kept_by old new sound (sound_from new blocks wrote stays.parts space free_double) stays.map

@@ -15,3 +15,5 @@ pub mod Whole
 pub mod Sums
 pub mod WholeSplit
 pub mod Writes
+pub mod NewFile
+pub mod Beside

@@ -1,11 +1,13 @@
 //! Laws over the bytes of a file on which a database rests: look-up, a change of one bucket, space, splits.
 #![tactic(auto)]
 
+ghost use Rattle.gd_laws.specs.Beside.{BesideKeepsSound};
 ghost use Rattle.gd_laws.specs.Change.{DeleteLaw, KeyLaw, StoreLaw};
 ghost use Rattle.gd_laws.specs.Find.{AbsentByCount, AbsentByProbes, FieldsOfKey, KeyOnce, PresentBySlot, SetSlots, GrownAdds, GrownIsExtent};
 ghost use Rattle.gd_laws.specs.Frame.{StaysLaw, KeepsJoin, KeepsMore, WriteKeeps, WrittenReads, WrittenSize, StaysAsideLaw};
 ghost use Rattle.gd_laws.specs.Lookup.{LookupExact, RecordsOnce};
 ghost use Rattle.gd_laws.specs.Maps.{MapsByLookup, SameMaps, MapWith, MapWithout};
+ghost use Rattle.gd_laws.specs.NewFile.{NewIsSound};
 ghost use Rattle.gd_laws.specs.Overflow.{OverflowLaw, FullIsClose, OthersAreNotClose, CloseStays, FullHasBits};
 ghost use Rattle.gd_laws.specs.Side.{SideKept};
 ghost use Rattle.gd_laws.specs.Slots.{SlotsOfBucket, BucketOfSlots};
@@ -159,4 +161,14 @@ pub fn whole_splits()
 /// What the last writes of a change of one key leave: the bucket's block, and the header's block.
 pub fn last_writes()
     ensures { WritesLaw }
+{}
+
+/// A file with one bucket and no record is sound.
+pub fn new_is_sound()
+    ensures { NewIsSound }
+{}
+
+/// What is written in the header's block and in free space alone keeps the file sound, and the list of its records.
+pub fn beside_is_kept()
+    ensures { BesideKeepsSound }
 {}
