@@ -20,6 +20,7 @@ pub mod WholeSplit
 pub mod Writes
 pub mod NewFile
 pub mod Beside
+pub mod SplitWrites
 pub mod DoubleSpace
 pub mod Split
 pub mod Double

@@ -17,3 +17,4 @@ pub mod WholeSplit
 pub mod Writes
 pub mod NewFile
 pub mod Beside
+pub mod SplitWrites

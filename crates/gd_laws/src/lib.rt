@@ -15,6 +15,7 @@ ghost use Rattle.gd_laws.specs.Sounds.{BelowIsAvail, BelowIsRight, BlocksMakeSou
 ghost use Rattle.gd_laws.specs.Space.{SpaceLaw};
 ghost use Rattle.gd_laws.specs.Split.{SplitLaw, DoubleLaw};
 ghost use Rattle.gd_laws.specs.SplitSpace.{SplitSpaceLaw, DoubleSpaceLaw};
+ghost use Rattle.gd_laws.specs.SplitWrites.{SplitFromWrites};
 ghost use Rattle.gd_laws.specs.Sums.{LostChanges, TotalChanges, TotalFits};
 ghost use Rattle.gd_laws.specs.Update.{SlotsLaw, FileLaw, OneKeyLaw};
 ghost use Rattle.gd_laws.specs.Whole.{DeleteKeepsSound, StoreKeepsSound};
@@ -171,4 +172,9 @@ pub fn new_is_sound()
 /// What is written in the header's block and in free space alone keeps the file sound, and the list of its records.
 pub fn beside_is_kept()
     ensures { BesideKeepsSound }
+{}
+
+/// A split by what it writes.
+pub fn split_by_writes()
+    ensures { SplitFromWrites }
 {}
