@@ -1,4 +1,4 @@
-pub mod Counts
 pub mod Ends
 pub mod Files
 pub mod Pairs
+pub mod Refusals

@@ -5,14 +5,14 @@ use Rattle.gd_base.specs.declared.errors.DbError.TheVariants.{Absent, VaultFault
 use Rattle.gd_base.specs.Causes.{Rose}
 use Rattle.gd_base.specs.Errors.{error_text}
 use Rattle.gd_base.specs.Streams.{WritesFront, and_then}
-use Rattle.gd_vault.specs.Content.{Content}
-use Rattle.gd_vault.specs.Views.{View, IsAt}
+use Rattle.gd_vault.specs.Content.{File, Content}
+use Rattle.gd_vault.specs.Views.{Told, View, IsAt, content_of}
 use Rattle.gd_format.specs.HeaderFault.{header_of}
 use Rattle.gd_format.specs.File.{file_fault, front_of, records}
 use Rattle.gd_dump.specs.Ascii.{ascii_text}
 use Rattle.gd_top.specs.Words.{Text}
 use Rattle.gd_top.specs.declared.ending.Ending.{Ending}
-use Rattle.gd_top.specs.declared.ending.Ending.TheVariants.{Dumped, Misused, Refused, OutputFailed, Starved}
+use Rattle.gd_top.specs.declared.ending.Ending.TheVariants.{Dumped, Misused, Refused, Broken, OutputFailed, Starved}
 
 -- ---- what is owed
 
@@ -40,6 +40,7 @@ abbrev pub line_of : Ending → Text
 line_of Dumped = []
 line_of Misused = codes "gdbm_dump: usage error\n"
 line_of (Refused e) = codes "gdbm_dump: " ++ (error_text e ++ 10 ∷ [])
+line_of (Broken e) = codes "gdbm_dump: " ++ (error_text e ++ 10 ∷ [])
 line_of OutputFailed = codes "gdbm_dump: output fault\n"
 line_of Starved = codes "gdbm_dump: out of memory\n"
 
@@ -47,6 +48,7 @@ abbrev pub status_of : Ending → ℕ
 status_of Dumped = 0
 status_of Misused = 3
 status_of (Refused e) = 1
+status_of (Broken e) = 1
 status_of OutputFailed = 1
 status_of Starved = 4
 
@@ -61,12 +63,13 @@ Says e status before now err0 err1 =
     ((status ≡ status_of e) × (err1 ≡ and_then err0 (line_of e)))
     ⊎ ((status ≡ status_untold e) × Rose before now × WritesFront err0 err1 (line_of e))
 
--- ---- what is printed
+-- ---- what is printed: the whole text, a front of it where the dump was begun, or nothing
 
 abbrev pub Prints : Ending → Text → View → (out0 out1 : Option Text) → Type 0
 Prints Dumped name v out0 out1 = IsAt v (λ c. out1 ≡ and_then out0 (text_of name (bytes_of c name)))
-Prints OutputFailed name v out0 out1 = IsAt v (λ c. WritesFront out0 out1 (text_of name (bytes_of c name)))
-Prints e name v out0 out1 = out1 ≡ out0
+Prints Misused name v out0 out1 = out1 ≡ out0
+Prints (Refused e) name v out0 out1 = out1 ≡ out0
+Prints e name v out0 out1 = IsAt v (λ c. WritesFront out0 out1 (text_of name (bytes_of c name)))
 
 -- ---- why: exactly where the content is told, a fault only where its count rose, and want of memory always
 
@@ -74,11 +77,22 @@ Prints e name v out0 out1 = out1 ≡ out0
 abbrev pub RefusedFor : DbError → Text → View → (vault_failed : Type 0) → Type 0
 RefusedFor e name v vault_failed = IsAt v (λ c. fault_of (bytes_of c name) ≡ Some e) ⊎ ((e ≡ VaultFault) × vault_failed)
 
+abbrev pub IsReadable : Text → View → Type 0
+IsReadable name v = IsAt v (λ c. fault_of (bytes_of c name) ≡ None)
+
+-- why a dump that was begun was not ended: a fault of the vault, or one that doesn't tell its content, a fault of the output, or want of memory
+abbrev pub Breaks : Ending → Told → (vault_failed out_failed : Type 0) → Type 0
+Breaks (Broken e) told vault_failed out_failed = ((e ≡ VaultFault) × vault_failed) ⊎ (content_of told ≡ None)
+Breaks OutputFailed told vault_failed out_failed = out_failed
+Breaks Starved told vault_failed out_failed = Unit {0}
+Breaks e told vault_failed out_failed = ⊥
+
 abbrev pub ComesFor : Ending → Text → View → (vault_failed out_failed : Type 0) → Type 0
-ComesFor Dumped name v vault_failed out_failed = IsAt v (λ c. fault_of (bytes_of c name) ≡ None)
+ComesFor Dumped name v vault_failed out_failed = IsReadable name v
 ComesFor Misused name v vault_failed out_failed = ⊥
 ComesFor (Refused e) name v vault_failed out_failed = RefusedFor e name v vault_failed
-ComesFor OutputFailed name v vault_failed out_failed = out_failed
+ComesFor (Broken e) name v vault_failed out_failed = IsReadable name v × Breaks (Broken e) v.told vault_failed out_failed
+ComesFor OutputFailed name v vault_failed out_failed = IsReadable name v × out_failed
 ComesFor Starved name v vault_failed out_failed = Unit {0}
 
 -- the dump of the file with a name
@@ -93,22 +107,14 @@ Ends e (Some name) v vault_failed out_failed out0 out1 = EndsFor e name v vault_
 
 -- ---- the parts of a dump
 
--- why a file that is there was not read
-abbrev pub FailsFor : Ending → (vault_failed : Type 0) → Type 0
-FailsFor (Refused e) vault_failed = (e ≡ VaultFault) × vault_failed
-FailsFor Starved vault_failed = Unit {0}
-FailsFor e vault_failed = ⊥
+-- where the content is told, P holds of the bytes of a file
+abbrev pub AtFile : View → ℕ → (List ℕ → Type 0) → Type 0
+AtFile v f P = IsAt v (λ c. (x : File) → c.files f ≡ Some x → P x.bytes)
 
--- why the file with a name was not read
-abbrev pub RefusesFile : Ending → Text → View → (vault_failed : Type 0) → Type 0
-RefusesFile (Refused e) name v vault_failed = RefusedFor e name v vault_failed
-RefusesFile Starved name v vault_failed = Unit {0}
-RefusesFile e name v vault_failed = ⊥
-
--- the dump of a file that was read whole
-abbrev pub EndsOver : Ending → Text → List ℕ → (out_failed : Type 0) → (out0 out1 : Option Text) → Type 0
-EndsOver Dumped name file out_failed out0 out1 = (file_fault file ≡ None) × (out1 ≡ and_then out0 (dump_of name file))
-EndsOver (Refused e) name file out_failed out0 out1 = (file_fault file ≡ Some e) × (out1 ≡ out0)
-EndsOver OutputFailed name file out_failed out0 out1 = (file_fault file ≡ None) × out_failed × WritesFront out0 out1 (dump_of name file)
-EndsOver Starved name file out_failed out0 out1 = out1 ≡ out0
-EndsOver e name file out_failed out0 out1 = ⊥
+-- the dump of a file that is there
+abbrev pub EndsAt : Ending → Text → View → ℕ → (vault_failed out_failed : Type 0) → (out0 out1 : Option Text) → Type 0
+EndsAt Dumped name v f vault_failed out_failed out0 out1 = AtFile v f (λ file. (file_fault file ≡ None) × (out1 ≡ and_then out0 (dump_of name file)))
+EndsAt Misused name v f vault_failed out_failed out0 out1 = ⊥
+EndsAt (Refused e) name v f vault_failed out_failed out0 out1 = (AtFile v f (λ file. file_fault file ≡ Some e) ⊎ ((e ≡ VaultFault) × vault_failed)) × (out1 ≡ out0)
+EndsAt Starved name v f vault_failed out_failed out0 out1 = AtFile v f (λ file. WritesFront out0 out1 (text_of name (Some file)))
+EndsAt e name v f vault_failed out_failed out0 out1 = AtFile v f (λ file. (file_fault file ≡ None) × WritesFront out0 out1 (dump_of name file)) × Breaks e v.told vault_failed out_failed

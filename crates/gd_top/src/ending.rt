@@ -1,10 +1,12 @@
 //! How a run of the dumper ends, and what is said of it on standard error.
 
-ghost use Rattle.std.specs.Prelude.{◌≡◌, ◌≤◌, ◌∷◌, ◌++◌, [], codes};
+ghost use Rattle.std.specs.Prelude.{◌≡◌, ◌≢◌, ◌⊎◌, ◌≤◌, ◌∷◌, ◌++◌, [], codes};
+ghost use Rattle.gd_base.specs.declared.errors.DbError.TheVariants.{OutOfMemory};
 ghost use Rattle.gd_base.specs.Causes.{HasCause};
 ghost use Rattle.gd_base.specs.Errors.{error_text};
 ghost use Rattle.gd_base.specs.Pages.{Pends};
 ghost use Rattle.gd_base.specs.Streams.{Puts};
+ghost use Rattle.gd_top.specs.declared.ending.Ending.TheVariants.{Broken, OutputFailed, Refused, Starved};
 ghost use Rattle.gd_top.specs.Dump.{Says, line_of, status_of, status_untold};
 
 use gd_base::{DbError, Failed, Page, Sink, flush, put, put_error};
@@ -16,8 +18,10 @@ pub enum Ending {
     Dumped,
     /// The words are refused.
     Misused,
-    /// The file is absent or not readable, or the vault failed.
+    /// The file is absent or not readable, or the vault failed before the first byte was put.
     Refused(DbError),
+    /// The vault failed after the dump was begun.
+    Broken(DbError),
     OutputFailed,
     /// No memory was found.
     Starved,
@@ -31,7 +35,7 @@ impl Ending {
             Ending::Dumped => 0,
             Ending::Misused => 3,
             Ending::Starved => 4,
-            Ending::Refused(_) | Ending::OutputFailed => 1,
+            Ending::Refused(_) | Ending::Broken(_) | Ending::OutputFailed => 1,
         }
     }
 
@@ -43,6 +47,37 @@ impl Ending {
             Ending::Misused => 3,
             _ => 1,
         }
+    }
+}
+
+// A sink fails only after the dump was begun.
+impl From<Failed> for Ending {
+    ghost from_gives = { λ _ e. e ≡ OutputFailed };
+
+    fn from(_: Failed) -> Ending {
+        Ending::OutputFailed
+    }
+}
+
+// The error of a walk ends a dump that was begun.
+impl From<DbError> for Ending {
+    ghost from_gives = { λ error e. ((e ≡ Starved) × (error ≡ OutOfMemory)) ⊎ ((e ≡ Broken error) × (error ≢ OutOfMemory)) };
+
+    fn from(error: DbError) -> Ending {
+        match error {
+            DbError::OutOfMemory => Ending::Starved,
+            error => Ending::Broken(error),
+        }
+    }
+}
+
+/// How the refusal of a file ends a run.
+pub fn refused(error: DbError) -> Ending
+    ensures { ((result ≡ Starved) × (error ≡ OutOfMemory)) ⊎ ((result ≡ Refused error) × (error ≢ OutOfMemory)) }
+{
+    match error {
+        DbError::OutOfMemory => Ending::Starved,
+        error => Ending::Refused(error),
     }
 }
 
@@ -73,7 +108,7 @@ fn put_line<E: Sink>(page: &mut Page, ending: Ending, err: &mut E) -> Result<(),
     match ending {
         Ending::Dumped => put(page, err, b""),
         Ending::Misused => put(page, err, b"gdbm_dump: usage error\n"),
-        Ending::Refused(error) => put_refusal(page, error, err),
+        Ending::Refused(error) | Ending::Broken(error) => put_refusal(page, error, err),
         Ending::OutputFailed => put(page, err, b"gdbm_dump: output fault\n"),
         Ending::Starved => put(page, err, b"gdbm_dump: out of memory\n"),
     }

@@ -4,6 +4,7 @@
 mod clock;
 mod companion;
 mod files;
+mod pages;
 mod sink;
 mod source;
 mod vault;

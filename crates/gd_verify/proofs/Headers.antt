@@ -63,6 +63,10 @@ pub header_room : (h : Header) → IsHeader h → 112 + 24 * h.elems ≤ h.block
 unfolding is_block_size
 header_room h i = let block = within (pos h.block) 512 1048576 (and-true _ _ i.block).0 in slots_fit h.block h.elems block.0 i.elems
 
+pub header_block : (h : Header) → IsHeader h → h.block ≤ 1048576
+unfolding is_block_size
+header_block h i = (within (pos h.block) 512 1048576 (and-true _ _ i.block).0).1
+
 is_block_within : (z : ℤ) → is_block_size z ≡ true → is_within z 512 1048576 ≡ true
 unfolding is_block_size
 is_block_within z h = (and-true _ _ h).0

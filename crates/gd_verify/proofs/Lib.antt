@@ -1,3 +1,4 @@
+pub mod Ahead
 pub mod Asks
 pub mod Entries
 pub mod Fronts

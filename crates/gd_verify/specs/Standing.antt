@@ -1,5 +1,5 @@
 -- Where a walk over the records of a file stands.
-use Rattle.std.specs.Prelude.{◌≡◌, ◌+◌, ◌*◌, ◌<◌, ◌≤◌, ◌^◌, ℕ, ℤ, pos, negsuc, Option, Some, None, List, length}
+use Rattle.std.specs.Prelude.{◌≡◌, ◌+◌, ◌-◌, ◌*◌, ◌<◌, ◌≤◌, ◌^◌, ℕ, ℤ, pos, negsuc, Option, Some, None, List, length}
 use Rattle.gd_format.specs.declared.Header.{Header}
 use Rattle.gd_format.specs.File.{entries_of}
 use Rattle.gd_verify.specs.Left.{IsWalk, records_left}
@@ -28,6 +28,13 @@ StandsIn file w = IsWalk file w.header w.entry w.block w.slot
 -- the records that it has still to give
 abbrev pub left_of : List ℕ → Standing → List (List ℕ × List ℕ)
 left_of file w = records_left file w.header w.entry w.block w.slot
+
+-- how many slots come at the most, over any bytes: those of the bucket from one on, and those of a bucket an entry
+unfoldable pub slots_ahead : Header → (entry slot : ℕ) → ℕ
+slots_ahead h entry slot = (entries_of h - entry) * h.elems + (h.elems - slot)
+
+abbrev pub slots_of_walk : Standing → ℕ
+slots_of_walk w = slots_ahead w.header w.entry w.slot
 
 -- an address, where the number is one
 abbrev pub place_of : ℤ → Option ℕ

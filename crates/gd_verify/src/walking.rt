@@ -11,7 +11,7 @@ ghost use Rattle.gd_vault.specs.Views.{HasFile, IsAt, OnlyAsks};
 ghost use Rattle.gd_verify.specs.Asks.{kept_of, bytes_in, is_there, Tells, IsCause, Refuses, error_of, RefusesWalk};
 ghost use Rattle.gd_verify.specs.Checks.{IsHeaderIn};
 ghost use Rattle.gd_verify.specs.Left.{passing_from, slots_left, buckets_left, records_left, IsWalk};
-ghost use Rattle.gd_verify.specs.Standing.{StandsIn, left_of, place_of, FitsWalk};
+ghost use Rattle.gd_verify.specs.Standing.{StandsIn, left_of, place_of, FitsWalk, slots_ahead, slots_of_walk};
 
 use crate::keys::{address, has_right_fields, key_size, value_size};
 use crate::reading::{Stopped, fill, fill_some};
@@ -254,7 +254,7 @@ fn next_in_block<V: Vault>(
     ensures same { kept_of (V.view_of vault.new) ≡ kept_of (V.view_of vault.old) }
     ensures later { (V.view_of vault.old).faults ≤ (V.view_of vault.new).faults }
     ensures failed { IfErr result (λ e. Refuses e (Rose (V.view_of vault.old).faults (V.view_of vault.new).faults) (Tells (bytes_in (kept_of (V.view_of vault.old)) f.0) (λ file. ¬ IsWalk file header.now entry block.now slot))) }
-    ensures range { IfOk result (λ r. IfSome r (λ p. p.0 ≤ header.now.elems)) }
+    ensures range { IfOk result (λ r. IfSome r (λ p. (slot < p.0) × (p.0 ≤ header.now.elems))) }
     ensures some { IfOk result (λ r. IfSome r (λ p. Tells (bytes_in (kept_of (V.view_of vault.old)) f.0) (λ file. IsWalk file header.now entry block.now slot → (slots_left file header.now.elems block.now slot ≡ (p.1.0, p.1.1) ∷ slots_left file header.now.elems block.now p.0) × IsWalk file header.now entry block.now p.0))) }
     ensures none { IfOk result (λ r. IfNone r (passing_from (is_full_at block.now) header.now.elems slot ≡ [])) }
 {
@@ -312,6 +312,7 @@ struct Place {
 }
 
 // The next record from a place on, which goes behind it.
+#[tactic(auto, using(crate::proofs::Ahead::ahead_slot))]
 fn next_from<V: Vault>(
     alloc: Global,
     vault: &mut V,
@@ -326,6 +327,7 @@ fn next_from<V: Vault>(
     ensures fits { FitsWalk header.now place.new.entry place.new.block.items place.new.slot }
     ensures walk { Tells (bytes_in (kept_of (V.view_of vault.old)) f.0) (λ file. IsWalk file header.now place.old.entry place.old.block.items place.old.slot → IsWalk file header.now place.new.entry place.new.block.items place.new.slot) }
     ensures some { IfOk result (λ r. IfSome r (λ p. Tells (bytes_in (kept_of (V.view_of vault.old)) f.0) (λ file. IsWalk file header.now place.old.entry place.old.block.items place.old.slot → records_left file header.now place.old.entry place.old.block.items place.old.slot ≡ (p.0, p.1) ∷ records_left file header.now place.new.entry place.new.block.items place.new.slot))) }
+    ensures further { IfOk result (λ r. IfSome r (λ _. slots_ahead header.now place.new.entry place.new.slot < slots_ahead header.now place.old.entry place.old.slot)) }
     ensures none { IfOk result (λ r. IfNone r (Tells (bytes_in (kept_of (V.view_of vault.old)) f.0) (λ file. IsWalk file header.now place.old.entry place.old.block.items place.old.slot → records_left file header.now place.old.entry place.old.block.items place.old.slot ≡ []))) }
     ensures failed { IfErr result (λ e. Refuses e (Rose (V.view_of vault.old).faults (V.view_of vault.new).faults) (Tells (bytes_in (kept_of (V.view_of vault.old)) f.0) (λ file. ¬ IsWalk file header.now place.old.entry place.old.block.items place.old.slot))) }
     ensures again { IfErr result (λ _. Tells (bytes_in (kept_of (V.view_of vault.old)) f.0) (λ file. IsWalk file header.now place.old.entry place.old.block.items place.old.slot → records_left file header.now place.new.entry place.new.block.items place.new.slot ≡ records_left file header.now place.old.entry place.old.block.items place.old.slot)) }
@@ -401,6 +403,7 @@ impl Walk {
         requires readable { IsAt (V.view_of vault.old) (λ c. (x : File) → c.files f.0 ≡ Some x → (file_fault x.bytes ≡ None) × (header.now ≡ header_of (front_of x.bytes))) }
         ensures asks { OnlyAsks (V.view_of vault.old) (V.view_of vault.new) }
         ensures file { IfOk result (λ w. w.f ≡ f.0) }
+        ensures few { IfOk result (λ w. slots_of_walk w < 2 ^ 64) }
         ensures stands { IfOk result (λ w. IsAt (V.view_of vault.old) (λ c. (x : File) → c.files f.0 ≡ Some x → StandsIn x.bytes w)) }
         ensures records { IfOk result (λ w. IsAt (V.view_of vault.old) (λ c. (x : File) → c.files f.0 ≡ Some x → left_of x.bytes w ≡ records x.bytes)) }
         ensures refused { IfErr result (λ e. RefusesWalk e (V.view_of vault.old) (V.view_of vault.new)) }
@@ -429,6 +432,7 @@ impl Walk {
         ensures file { self.new.f ≡ self.old.f }
         ensures stands { IsAt (V.view_of vault.old) (λ c. (x : File) → c.files self.old.f ≡ Some x → StandsIn x.bytes self.new) }
         ensures some { IfOk result (λ r. IfSome r (λ p. IsAt (V.view_of vault.old) (λ c. (x : File) → c.files self.old.f ≡ Some x → left_of x.bytes self.old ≡ (p.0, p.1) ∷ left_of x.bytes self.new))) }
+        ensures further { IfOk result (λ r. IfSome r (λ _. slots_of_walk self.new < slots_of_walk self.old)) }
         ensures none { IfOk result (λ r. IfNone r (IsAt (V.view_of vault.old) (λ c. (x : File) → c.files self.old.f ≡ Some x → left_of x.bytes self.old ≡ []))) }
         ensures refused { IfErr result (λ e. RefusesWalk e (V.view_of vault.old) (V.view_of vault.new)) }
         ensures again { IfErr result (λ _. IsAt (V.view_of vault.old) (λ c. (x : File) → c.files self.old.f ≡ Some x → left_of x.bytes self.new ≡ left_of x.bytes self.old)) }

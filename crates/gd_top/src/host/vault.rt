@@ -9,6 +9,7 @@ use crate::host::files::{
     copy_bytes, create_new, fill, folder_of, open, remove, replace_or_remove, sync_folder,
     sync_if_there, write_range,
 };
+use crate::host::pages::{PAGE, Pages, Text};
 use gd_base::{Failed, Name};
 use gd_vault::{CreateError, FileId, Mode, Vault};
 use std::alloc::Global;
@@ -23,19 +24,23 @@ struct Held {
     device: u64,
     inode: u64,
     name: String,
+    // How often it was changed.
+    changes: u64,
 }
 
 /// The files of the host. A name is a path. A file stays open once it was looked up or made; two names of one file, as a
 /// link makes them, have one id. What is no regular file, or can't be opened to read, is a failure of `lookup`.
 ///
 /// Mode and stamp of a file stand in its companion (`NAME.mode`), which is read and written anew in each call. The host's
-/// own permissions play no part. `sync` syncs the file and its companion; `sync_names` syncs the folders in which names
+/// own permissions play no part. Small reads go through pages that are kept: what another program writes meanwhile may
+/// not be seen. `sync` syncs the file and its companion; `sync_names` syncs the folders in which names
 /// were made, replaced or removed. A call for which no memory is found fails. Nothing of a failed call is taken back.
 #[derive(Drop)]
 pub struct HostVault<'a> {
     rt: &'a HostRuntime,
     alloc: Global,
     held: Vec<Held>,
+    pages: Pages,
     // The folders whose names changed since they were synced.
     folders: Vec<String>,
     faults: u64,
@@ -54,6 +59,7 @@ impl<'a> HostVault<'a> {
             rt,
             alloc,
             held: Vec::new(alloc),
+            pages: Pages::new(alloc),
             folders: Vec::new(alloc),
             faults: 0,
             bytes_written: 0,
@@ -76,6 +82,7 @@ impl<'a> HostVault<'a> {
             device: data.dev(),
             inode: data.ino(),
             name,
+            changes: 0,
         })?;
         Ok(FileId(place))
     }
@@ -139,10 +146,39 @@ impl<'a> HostVault<'a> {
         write_marks(self.rt, self.alloc, &companion, marks)
     }
 
-    fn read(&self, f: FileId, at: u64, buf: &mut [u8]) -> io::Result<usize>
-        ensures { IfOk result (λ n. n ≤ length buf.new) }
+    // A read of less than a page lies in two pages at the most.
+    fn read(&mut self, f: FileId, at: u64, buf: &mut [u8]) -> io::Result<usize>
+        ensures count { IfOk result (λ n. n ≤ length buf.new) }
+        ensures counts { (self.new.faults ≡ self.old.faults) × (self.new.bytes_written ≡ self.old.bytes_written) × (self.new.clones ≡ self.old.clones) }
     {
-        fill(&self.held(f)?.file, at, buf)
+        let Some(held) = self.held.get(f.0 as usize) else {
+            return Err(io::ErrorKind::NotFound.into());
+        };
+        if buf.len() >= PAGE {
+            return fill(&held.file, at, buf);
+        }
+        let text = Text {
+            file: f.0,
+            changes: held.changes,
+        };
+        let first = self.pages.copy(&held.file, text, at, buf)?;
+        let Some(next) = at.checked_add(first as u64) else {
+            return Ok(first);
+        };
+        if first == 0 || first == buf.len() {
+            return Ok(first);
+        }
+        let second = self.pages.copy(&held.file, text, next, &mut buf[first..])?;
+        Ok(first + second)
+    }
+
+    // The pages of a file that is to be changed are not read any more.
+    fn note_text(&mut self, f: FileId)
+        ensures { (self.new.faults ≡ self.old.faults) × (self.new.bytes_written ≡ self.old.bytes_written) × (self.new.clones ≡ self.old.clones) }
+    {
+        if let Some(held) = self.held.get_mut(f.0 as usize) {
+            held.changes = held.changes.wrapping_add(1);
+        }
     }
 
     // A write past the longest length fails, on every host.
@@ -288,6 +324,7 @@ impl Vault for HostVault<'_> {
     }
 
     fn write_at(&mut self, f: FileId, at: u64, bytes: &[u8]) -> Result<(), Failed> {
+        self.note_text(f);
         match self.write(f, at, bytes) {
             Ok(()) => {
                 self.bytes_written = self.bytes_written.saturating_add(bytes.len() as u64);
@@ -298,11 +335,13 @@ impl Vault for HostVault<'_> {
     }
 
     fn truncate(&mut self, f: FileId) -> Result<(), Failed> {
+        self.note_text(f);
         let ended = self.empty(f);
         self.counted(ended)
     }
 
     fn clone_into(&mut self, dst: FileId, src: FileId, stamp: u64) -> Result<(), Failed> {
+        self.note_text(dst);
         match self.copy(dst, src, stamp) {
             Ok(()) => {
                 self.clones = self.clones.saturating_add(1);

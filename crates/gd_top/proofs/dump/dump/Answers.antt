@@ -1,11 +1,15 @@
-use Rattle.std.proofs.Common.{◌≡◌, ◌∙◌, ap, Some, sym}
-use Rattle.gd_vault.specs.Views.{IsAt}
-use Rattle.gd_top.specs.Dump.{bytes_of}
-use Rattle.gd_top.proofs.Ends.{ends_over}
+use Rattle.std.proofs.Common.{◌≡◌, ◌∙◌, Some, ap, sym}
+use Rattle.gd_vault.specs.Views.{HasFile, IsAt, content_of}
+use Rattle.gd_top.proofs.Ends.{ends_named, ends_on, rose_since}
 use Rattle.gd_top.proofs.dump.dump.Goals as goal
 
-pub returns-in-Ok-clause-ends : goal.returns-in-Ok-clause-ends
-returns-in-Ok-clause-ends g c =
-    let at : IsAt (g.V.Vault.view_of c.args.vault.now) (λ d. bytes_of d c.args.name.now ≡ Some c.deref.result.now) =
-    λ d told. c.in-Ok.ensures.bytes d told ∙ ap Some (sym c.deref.ensures.value) in
-    ends_over c.dump_bytes.result c.args.name.now (g.V.Vault.view_of c.args.vault.now) c.deref.result.now _ _ _ _ at c.dump_bytes.ensures.ends
+pub returns-in-Ok-Some-clause-ends : goal.returns-in-Ok-Some-clause-ends
+returns-in-Ok-Some-clause-ends g c =
+    let before = g.V.Vault.view_of c.args.vault.now in
+    let here = g.V.Vault.view_of c.lookup.new.self in
+    let asked = c.in-Ok-Some.ensures.asked in
+    let found : IsAt before (λ d. d.names c.args.name.now ≡ Some c.in-Ok-Some.f.0) = rw c.in-Ok-Some.field-0-is at c.in-Ok-Some.ensures.found in
+    let there : HasFile here c.in-Ok-Some.f.0 = rw c.in-Ok-Some.field-0-is at c.in-Ok-Some.ensures.there in
+    let ends = c.dump_file.ensures.ends in
+    ends_named c.args.name.now before c.in-Ok-Some.f.0 found (λ d told. there d (ap content_of asked.told ∙ told))
+    c.dump_file.result _ _ _ _ (ends_on c.dump_file.result c.args.name.now here before c.in-Ok-Some.f.0 _ _ _ _ _ _ asked.told (λ r. rose_since before.faults here.faults _ asked.cause.later r) (λ r. r) ends)

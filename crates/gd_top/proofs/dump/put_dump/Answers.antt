@@ -1,31 +1,43 @@
 use Rattle.std.proofs.Common.{◌++◌, ℕ, length, subst}
 use Rattle.gd_base.specs.Pages.{Pends}
-use Rattle.gd_base.proofs.Waits.{pends-after, pends-front}
-use Rattle.gd_format.specs.File.{records}
+use Rattle.gd_base.specs.Streams.{WritesFront}
+use Rattle.gd_base.proofs.Waits.{Waits, pends-after, pends-front, waits-more}
 use Rattle.gd_dump.specs.Ascii.{end_text, head_text, pairs_text}
+use Rattle.gd_verify.specs.Standing.{left_of}
+use Rattle.gd_top.proofs.Files.{pends_failed}
 use Rattle.gd_top.proofs.dump.put_dump.Goals as goal
 
 pub returns-in_err-put_head-clause-bytes : goal.returns-in_err-put_head-clause-bytes
 returns-in_err-put_head-clause-bytes g c =
-    let all = records c.args.file.now in
-    rw (← c.requires.header)
-    (pends-front _ c.from_residual.result _ _ _ _ (head_text c.args.header.now.format c.args.name.now) (pairs_text all ++ end_text (length all)) c.from_residual.ensures.1 c.in_err-put_head.ensures.bytes)
+    λ d told x is.
+    let all = left_of x.bytes c.args.walk.now in
+    pends-front _ c.from_residual.result _ _ _ _ (head_text c.args.format c.args.name.now) (pairs_text all ++ end_text (length all)) c.from_residual.ensures.1 c.in_err-put_head.ensures.bytes
 
 pub returns-in_err-count-clause-bytes : goal.returns-in_err-count-clause-bytes
 returns-in_err-count-clause-bytes g c =
-    let all = records c.args.file.now in
+    λ d told x is.
+    let all = left_of x.bytes c.args.walk.now in
     let r = c.from_residual-in_err-count.result in
-    rw (← c.requires.header)
-    (pends-after r _ _ _ _ _ _ (head_text c.args.header.now.format c.args.name.now) (pairs_text all ++ end_text (length all)) c.in_ok-put_head.ensures.bytes
-    (pends-front _ r _ _ _ _ (pairs_text all) (end_text (length all)) c.from_residual-in_err-count.ensures.1 c.in_err-count.ensures.bytes))
+    pends-after r _ _ _ _ _ _ (head_text c.args.format c.args.name.now) (pairs_text all ++ end_text (length all)) c.in_ok-put_head.ensures.bytes
+    (pends-front _ r _ _ _ _ (pairs_text all) (end_text (length all)) c.from_residual-in_err-count.ensures.1 (c.in_err-count.ensures.bytes d told x is))
+
+pub returns-in_err-put_end-clause-bytes : goal.returns-in_err-put_end-clause-bytes
+returns-in_err-put_end-clause-bytes g c =
+    λ d told x is.
+    let all = left_of x.bytes c.args.walk.now in
+    let sink = g.O.Sink in
+    let r = c.from_residual-in_err-put_end.result in
+    let front : ℕ → Type 0 = λ n. WritesFront (sink.written c.put_records.new.out) (sink.written c.put_end.new.out) (c.put_records.new.page.items ++ end_text n) in
+    pends-after r _ _ _ _ _ _ (head_text c.args.format c.args.name.now) (pairs_text all ++ end_text (length all)) c.in_ok-put_head.ensures.bytes
+    (pends-after r _ _ _ _ _ _ (pairs_text all) (end_text (length all)) (c.in_ok-count.ensures.bytes d told x is)
+    (pends_failed _ r _ _ _ _ (end_text (length all)) c.from_residual-in_err-put_end.ensures.1 (subst front (c.in_ok-count.ensures.count d told x is) c.in_err-put_end.ensures.bytes)))
 
 pub returns-clause-bytes : goal.returns-clause-bytes
 returns-clause-bytes g c =
-    let all = records c.args.file.now in
-    let r = c.put_end.result in
+    λ d told x is.
+    let all = left_of x.bytes c.args.walk.now in
     let sink = g.O.Sink in
-    let ends : ℕ → Type 0 = λ n. Pends (sink.written c.put_records.new.out) c.put_records.new.page.items (sink.written c.put_end.new.out) c.put_end.new.page.items r (end_text n) in
-    rw (← c.requires.header)
-    (pends-after r _ _ _ _ _ _ (head_text c.args.header.now.format c.args.name.now) (pairs_text all ++ end_text (length all)) c.in_ok-put_head.ensures.bytes
-    (pends-after r _ _ _ _ _ _ (pairs_text all) (end_text (length all)) c.in_ok-count.ensures.bytes
-    (subst ends c.in_ok-count.ensures.count c.put_end.ensures.bytes)))
+    let ends : ℕ → Type 0 = λ n. Waits (sink.written c.put_records.new.out) c.put_records.new.page.items (sink.written c.put_end.new.out) c.put_end.new.page.items (end_text n) in
+    waits-more _ _ _ _ _ _ (head_text c.args.format c.args.name.now) (pairs_text all ++ end_text (length all)) c.in_ok-put_head.ensures.bytes
+    (waits-more _ _ _ _ _ _ (pairs_text all) (end_text (length all)) (c.in_ok-count.ensures.bytes d told x is)
+    (subst ends (c.in_ok-count.ensures.count d told x is) c.in_ok-put_end.ensures.bytes))

@@ -2,6 +2,8 @@ use Rattle.std.proofs.Common.{◌≡◌, ◌≤◌, ◌<◌, ◌++◌, [], lengt
 use Rattle.gd_format.specs.File.{entries_of, is_full_at}
 use Rattle.gd_verify.specs.Asks.{kept_of, bytes_in, Tells}
 use Rattle.gd_verify.specs.Left.{IsWalk, passing_from, buckets_left, records_left}
+use Rattle.gd_verify.specs.Standing.{slots_ahead}
+use Rattle.gd_verify.proofs.Ahead.{ahead_slot, ahead_bucket}
 use Rattle.gd_verify.proofs.Asks.{told_then}
 use Rattle.gd_verify.proofs.Left.{walk_behind}
 use Rattle.gd_verify.proofs.Nexts.{refilled, left_behind, left_at_end}
@@ -46,6 +48,10 @@ buckets-preserved g c =
     record {
       same = search rules;
       later = omega (arith, old.later, c.in-Ok.ensures.later, c.in-Ok-next_block.ensures.later);
+      ahead =
+          let before = old.ahead in
+          let less : slots_ahead h next.0 0 ≤ slots_ahead h c.buckets.place.entry c.buckets.place.slot = ahead_bucket h c.buckets.place.entry next.0 c.buckets.place.slot range.0 high in
+          omega (arith, before, less);
       fits = rw block (record { dir = fits.dir; bits = fits.bits; room = fits.room; size = c.next_block.auto.block ∙ ap length c.deref_mut.ensures.value ∙ fits.size; entries = high; slots = omega arith });
       walk =
           λ file told w.

@@ -1,5 +1,6 @@
 use Rattle.std.proofs.Common.{arith, rules}
-use Rattle.gd_verify.proofs.Headers.{header_room}
+use Rattle.gd_verify.proofs.Ahead.{ahead_few}
+use Rattle.gd_verify.proofs.Headers.{header_block, header_room}
 use Rattle.gd_verify.proofs.Left.{walk_start}
 use Rattle.gd_verify.proofs.Passing.{starts_whole}
 use Rattle.gd_verify.proofs.walking.Walk.start.Goals as goal
@@ -15,6 +16,11 @@ invariant_of-result g c =
       entries = omega arith;
       slots = omega arith;
     }
+
+pub returns-clause-few : goal.returns-clause-few
+returns-clause-few g c =
+    let head = c.requires.header in
+    ahead_few c.args.header.now head.bits (header_room c.args.header.now head) (header_block c.args.header.now head)
 
 pub returns-clause-stands : goal.returns-clause-stands
 returns-clause-stands g c =
