@@ -50,6 +50,7 @@ pub fn fill_block(
     ensures least { IfSome result (λ p. count ≤ length spare.new.extents) }
     ensures most { IfSome result (λ p. length spare.new.extents ≤ count + 1) }
     ensures length { IfSome result (λ p. length table.new.extents + count ≤ length table.old.extents) }
+    ensures shorter { length table.new.extents ≤ length table.old.extents }
     ensures none { IfNone result (max (largest table.old.extents) (largest bucket.old.free) < avail_size count) }
     ensures full { IfNone result (2 ^ 46 < header.now.next_block + header.now.block) }
     ensures same_table { IfNone result (table.new ≡ table.old) }

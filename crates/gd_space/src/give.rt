@@ -52,6 +52,7 @@ pub fn push_last<V: Vault>(
     ensures growth { OnOk result (header.new.next_block ≡ header.old.next_block + push_growth count header.old table.old.extents bucket.old.free) }
     ensures below { OnOk result (header.new.next_block ≤ 2 ^ 46) }
     ensures length { OnOk result (length table.new.extents + count ≤ length table.old.extents) }
+    ensures shorter { length table.new.extents ≤ length table.old.extents }
     ensures full { IfErr result (λ e. e ≡ FileFull → 2 ^ 46 < header.old.next_block + push_growth count header.old table.old.extents bucket.old.free) }
     ensures same_table { IfErr result (λ e. e ≡ FileFull → table.new ≡ table.old) }
     ensures same_bucket { IfErr result (λ e. e ≡ FileFull → bucket.new ≡ bucket.old) }
@@ -107,6 +108,7 @@ pub fn make_room<V: Vault>(
     ensures growth { OnOk result (header.new.next_block ≡ header.old.next_block + room_growth header.old table.old.extents bucket.old.free) }
     ensures below { OnOk result (header.new.next_block ≤ 2 ^ 46) }
     ensures length { OnOk result (length table.new.extents < header.old.avail_size) }
+    ensures shorter { length table.new.extents ≤ length table.old.extents }
     ensures full { IfErr result (λ e. e ≡ FileFull → 2 ^ 46 < header.old.next_block + room_growth header.old table.old.extents bucket.old.free) }
     ensures same_table { IfErr result (λ e. e ≡ FileFull → table.new ≡ table.old) }
     ensures same_bucket { IfErr result (λ e. e ≡ FileFull → bucket.new ≡ bucket.old) }
@@ -166,7 +168,7 @@ pub fn give<V: Vault>(
     ensures header { OnOk result (header.new ≡ record header.old { next_block = header.new.next_block }) }
     ensures growth { OnOk result (header.new.next_block ≡ header.old.next_block + give_growth extent header.old table.old.extents bucket.old.free) }
     ensures below { OnOk result (header.new.next_block ≤ 2 ^ 46) }
-    ensures length { OnOk result (length table.new.extents ≤ header.old.avail_size) }
+    ensures length { length table.new.extents ≤ header.old.avail_size }
     ensures full { IfErr result (λ e. e ≡ FileFull → 2 ^ 46 < header.old.next_block + give_growth extent header.old table.old.extents bucket.old.free) }
     ensures same_table { IfErr result (λ e. e ≡ FileFull → table.new ≡ table.old) }
     ensures same_bucket { IfErr result (λ e. e ≡ FileFull → bucket.new ≡ bucket.old) }
@@ -238,6 +240,7 @@ pub fn recut<V: Vault>(
     ensures growth { OnOk result (header.new.next_block ≡ header.old.next_block + recut_growth capacity header.old table.old.extents bucket.old.free) }
     ensures below { OnOk result (header.new.next_block ≤ 2 ^ 46) }
     ensures length { OnOk result (length table.new.extents ≤ capacity) }
+    ensures shorter { length table.new.extents ≤ length table.old.extents }
     ensures full { IfErr result (λ e. e ≡ FileFull → 2 ^ 46 < header.old.next_block + recut_growth capacity header.old table.old.extents bucket.old.free) }
     ensures same_table { IfErr result (λ e. e ≡ FileFull → table.new ≡ table.old) }
     ensures same_bucket { IfErr result (λ e. e ≡ FileFull → bucket.new ≡ bucket.old) }

@@ -121,7 +121,8 @@ pub fn take_pushing<V: Vault>(
     ensures fields { AllByRecursion FitsExtent table.new.extents }
     ensures room { table.new.room ≡ table.old.room }
     ensures spare_room { spare.new.room ≡ spare.old.room }
-    ensures length { OnOk result (length table.new.extents ≤ header.old.avail_size) }
+    ensures length { length table.new.extents ≤ header.old.avail_size }
+    ensures same_header { IfErr result (λ e. header.new ≡ header.old) }
     ensures bits { bucket.new.bits ≡ bucket.old.bits }
     ensures slots { bucket.new.slots ≡ bucket.old.slots }
     ensures frame { Within (OneFile f.0) NoName (V.view_of vault.old) (V.view_of vault.new) }

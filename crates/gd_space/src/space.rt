@@ -160,12 +160,12 @@ impl Space {
         ensures bound { OnOk result (header.new.next_block < header.old.next_block + (n + 2 * header.old.block)) }
         ensures below { OnOk result (header.new.next_block ≤ 2 ^ 46) }
         ensures header { OnOk result (header.new ≡ record header.old { next_block = header.new.next_block }) }
-        ensures length { OnOk result (length self.new.table.extents ≤ header.old.avail_size) }
+        ensures length { length self.new.table.extents ≤ header.old.avail_size }
         ensures full { IfErr result (λ e. e ≡ FileFull → OnTable (V.view_of vault.old) f.0 header.old self.old.table.next_block self.old.table.extents bucket.old.free (λ table. 2 ^ 46 < header.old.next_block + growth_of n header.old table bucket.old.free)) }
         ensures full_any { IfErr result (λ e. e ≡ FileFull → 2 ^ 46 < header.old.next_block + (n + 2 * header.old.block)) }
         ensures same_table { IfErr result (λ e. e ≡ FileFull → self.new.table ≡ self.old.table) }
         ensures same_bucket { IfErr result (λ e. e ≡ FileFull → bucket.new ≡ bucket.old) }
-        ensures same_header { IfErr result (λ e. e ≡ FileFull → header.new ≡ header.old) }
+        ensures same_header { IfErr result (λ e. header.new ≡ header.old) }
         ensures same_told { IfErr result (λ e. e ≡ FileFull → (V.view_of vault.new).told ≡ (V.view_of vault.old).told) }
         ensures fault { IfErr result (λ e. e ≡ VaultFault → Rose (V.view_of vault.old).faults (V.view_of vault.new).faults) }
         ensures bad { IfErr result (λ e. (a : ℕ) → e ≡ BadAvail a → (a ≡ self.old.table.next_block) × TellsNone (V.view_of vault.old)) }
@@ -212,7 +212,7 @@ impl Space {
         ensures growth { OnOk result (header.new.next_block ≡ header.old.next_block + give_growth extent header.old self.old.table.extents bucket.old.free) }
         ensures below { OnOk result (header.new.next_block ≤ 2 ^ 46) }
         ensures header { OnOk result (header.new ≡ record header.old { next_block = header.new.next_block }) }
-        ensures length { OnOk result (length self.new.table.extents ≤ header.old.avail_size) }
+        ensures length { length self.new.table.extents ≤ header.old.avail_size }
         ensures full { IfErr result (λ e. e ≡ FileFull → 2 ^ 46 < header.old.next_block + give_growth extent header.old self.old.table.extents bucket.old.free) }
         ensures same_table { IfErr result (λ e. e ≡ FileFull → self.new.table ≡ self.old.table) }
         ensures same_bucket { IfErr result (λ e. e ≡ FileFull → bucket.new ≡ bucket.old) }
@@ -262,6 +262,7 @@ impl Space {
         ensures below { OnOk result (header.new.next_block ≤ 2 ^ 46) }
         ensures header { OnOk result (header.new ≡ record header.old { next_block = header.new.next_block; avail_size = capacity }) }
         ensures length { OnOk result (length self.new.table.extents ≤ capacity) }
+        ensures shorter { length self.new.table.extents ≤ length self.old.table.extents }
         ensures full { IfErr result (λ e. e ≡ FileFull → 2 ^ 46 < header.old.next_block + recut_growth capacity header.old self.old.table.extents bucket.old.free) }
         ensures same_table { IfErr result (λ e. e ≡ FileFull → self.new.table ≡ self.old.table) }
         ensures same_bucket { IfErr result (λ e. e ≡ FileFull → bucket.new ≡ bucket.old) }

@@ -79,7 +79,7 @@ pub fn take_now<V: Vault>(
     ensures fields { AllByRecursion FitsExtent table.new.extents }
     ensures room { table.new.room ≡ table.old.room }
     ensures spare_room { spare.new.room ≡ spare.old.room }
-    ensures length { OnOk result (length table.new.extents ≤ header.old.avail_size) }
+    ensures length { length table.new.extents ≤ header.old.avail_size }
     ensures bits { bucket.new.bits ≡ bucket.old.bits }
     ensures slots { bucket.new.slots ≡ bucket.old.slots }
     ensures frame { Within (OneFile f.0) NoName (V.view_of vault.old) (V.view_of vault.new) }
@@ -90,7 +90,7 @@ pub fn take_now<V: Vault>(
     ensures full { IfErr result (λ e. e ≡ FileFull → 2 ^ 46 < header.old.next_block + growth_of n header.old table.old.extents bucket.old.free) }
     ensures same_table { IfErr result (λ e. e ≡ FileFull → table.new ≡ table.old) }
     ensures same_bucket { IfErr result (λ e. e ≡ FileFull → bucket.new ≡ bucket.old) }
-    ensures same_header { IfErr result (λ e. e ≡ FileFull → header.new ≡ header.old) }
+    ensures same_header { IfErr result (λ e. header.new ≡ header.old) }
     ensures same_vault { IfErr result (λ e. e ≡ FileFull → V.view_of vault.new ≡ V.view_of vault.old) }
 {
     let grown = growth_here(table, bucket, header, n);
@@ -126,7 +126,7 @@ pub fn back_up<V: Vault>(
     requires buffer { header.now.block ≤ length buf.old }
     ensures back { OnOk result (Backed (V.view_of vault.old) f.0 header.now table.old.next_block table.new.next_block table.old.extents table.new.extents) }
     ensures front { OnOk result (take (length table.old.extents) table.new.extents ≡ table.old.extents) }
-    ensures length { OnOk result (length table.new.extents ≤ header.now.avail_size) }
+    ensures length { length table.new.extents ≤ header.now.avail_size }
     ensures room { table.new.room ≡ table.old.room }
     ensures spare_room { spare.new.room ≡ spare.old.room }
     ensures told { (V.view_of vault.new).told ≡ (V.view_of vault.old).told }
@@ -188,7 +188,7 @@ pub fn take<V: Vault>(
     ensures fields { AllByRecursion FitsExtent table.new.extents }
     ensures room { table.new.room ≡ table.old.room }
     ensures spare_room { spare.new.room ≡ spare.old.room }
-    ensures length { OnOk result (length table.new.extents ≤ header.old.avail_size) }
+    ensures length { length table.new.extents ≤ header.old.avail_size }
     ensures bits { bucket.new.bits ≡ bucket.old.bits }
     ensures slots { bucket.new.slots ≡ bucket.old.slots }
     ensures frame { Within (OneFile f.0) NoName (V.view_of vault.old) (V.view_of vault.new) }
@@ -203,7 +203,7 @@ pub fn take<V: Vault>(
     ensures full { IfErr result (λ e. e ≡ FileFull → OnTable (V.view_of vault.old) f.0 header.old table.old.next_block table.old.extents bucket.old.free (λ table. 2 ^ 46 < header.old.next_block + growth_of n header.old table bucket.old.free)) }
     ensures same_table { IfErr result (λ e. e ≡ FileFull → table.new ≡ table.old) }
     ensures same_bucket { IfErr result (λ e. e ≡ FileFull → bucket.new ≡ bucket.old) }
-    ensures same_header { IfErr result (λ e. e ≡ FileFull → header.new ≡ header.old) }
+    ensures same_header { IfErr result (λ e. header.new ≡ header.old) }
     ensures same_told { IfErr result (λ e. e ≡ FileFull → (V.view_of vault.new).told ≡ (V.view_of vault.old).told) }
 {
     let old = table.extents().len();
