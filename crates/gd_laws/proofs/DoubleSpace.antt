@@ -69,7 +69,7 @@ module _ (old new : List ℕ) (h h' : Header) (bits_le : h'.dir_bits ≤ 24) (pa
         let free = ap (λ (x : List ℕ). cover (free_at x (natural (counts_at x).free)) b) block in
         omega (arith, one, slots, free)
 
-    whole : (pool pool' : List Extent) → all_cover new h' pool' b + one_if (has_byte (extent h.dir (8 * entries_of h)) b) + cover pool b ≡ all_cover old h pool b + one_if (has_byte (extent h'.dir (8 * entries_of h')) b) + cover pool' b
+    pub whole : (pool pool' : List Extent) → all_cover new h' pool' b + one_if (has_byte (extent h.dir (8 * entries_of h)) b) + cover pool b ≡ all_cover old h pool b + one_if (has_byte (extent h'.dir (8 * entries_of h')) b) + cover pool' b
     unfolding all_cover
     whole pool pool' =
         let s = sum_twice (is_first old h) (is_first new h') (bucket_cover old h b) (bucket_cover new h' b) (entries_of h) even_first odd_not_first bucket_even in

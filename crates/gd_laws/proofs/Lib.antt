@@ -21,6 +21,7 @@ pub mod Writes
 pub mod NewFile
 pub mod Beside
 pub mod SplitWrites
+pub mod SplitSums
 pub mod DoubleSpace
 pub mod Split
 pub mod Double

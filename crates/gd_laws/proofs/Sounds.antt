@@ -246,6 +246,11 @@ below_from next low (e ∷ es) some sized inside = (
 header_has : (block b : ℕ) → b < block → one_if (has_byte (extent 0 block) b) ≡ 1
 header_has block b lt = rw (has_in 0 block b (omega arith) (omega arith)) refl
 
+-- the pool with the stack as these blocks
+pub stack_pool : (file : List ℕ) (h : Header) (blocks : List StackBlock) → IsStack file (most_of h) (top_of file h) blocks → ((b : ℕ) → cover (stack_extents blocks) b ≤ 1) → pool_of file h ≡ extents_at (table_of file h) ++ stack_extents blocks
+unfolding pool_of
+stack_pool file h blocks stack once = ap (λ (l : List Extent). extents_at (table_of file h) ++ l) (shown file (most_of h) (top_of file h) blocks (record { stack = stack; distinct = distinct_apart blocks once })).extents
+
 module _ (file : List ℕ) (h : Header) (blocks : List StackBlock) (sound : IsSoundBy file h blocks) where
   sizes : IsHeaderIn h (length file)
   sizes = rw (← sound.header_is) (header_in (front_of file) (length file) sound.header)

@@ -198,7 +198,7 @@ module _ (old new : List ℕ) (h : Header) (i at bits half q : ℕ) (bits_le : h
     bucket_old k e = rw e refl
 
     -- the first entry of the run stands in the first half
-    whole : (pool pool' : List Extent) → all_cover new h pool' b + cover (free_of old h i) b + cover pool b ≡ all_cover old h pool b + one_if (has_byte (extent at h.block) b) + cover (free_in (bytes_at new (natural (entry_at old h i)) h.block)) b + cover (free_in (bytes_at new at h.block)) b + cover pool' b
+    pub whole : (pool pool' : List Extent) → all_cover new h pool' b + cover (free_of old h i) b + cover pool b ≡ all_cover old h pool b + one_if (has_byte (extent at h.block) b) + cover (free_in (bytes_at new (natural (entry_at old h i)) h.block)) b + cover (free_in (bytes_at new at h.block)) b + cover pool' b
     unfolding all_cover
     whole pool pool' =
         let first = first_of_entry old h (entries_of h) i li in

@@ -36,7 +36,7 @@ use Rattle.gd_laws.proofs.FileUpdate.{block_shape}
 use Rattle.gd_format.specs.Field.{bytes_at}
 
 -- the sum over the numbers below n
-sum_below : (ℕ → ℕ) → ℕ → ℕ
+pub sum_below : (ℕ → ℕ) → ℕ → ℕ
 sum_below f zero = 0
 sum_below f (suc n) = sum_below f n + f n
 
@@ -45,12 +45,12 @@ unfolding sum_below
 sum_zero zero = refl
 sum_zero (suc n) = let ih = sum_zero n in omega (arith, ih)
 
-sum_add : (f g : ℕ → ℕ) (n : ℕ) → sum_below (λ b. f b + g b) n ≡ sum_below f n + sum_below g n
+pub sum_add : (f g : ℕ → ℕ) (n : ℕ) → sum_below (λ b. f b + g b) n ≡ sum_below f n + sum_below g n
 unfolding sum_below
 sum_add f g zero = refl
 sum_add f g (suc n) = let ih = sum_add f g n in omega (arith, ih)
 
-sum_even : (f g : ℕ → ℕ) (n : ℕ) → ((b : ℕ) → f b ≡ g b) → sum_below f n ≡ sum_below g n
+pub sum_even : (f g : ℕ → ℕ) (n : ℕ) → ((b : ℕ) → f b ≡ g b) → sum_below f n ≡ sum_below g n
 unfolding sum_below
 sum_even f g zero e = refl
 sum_even f g (suc n) e = let ih = sum_even f g n e in let here = e n in omega (arith, ih, here)
@@ -110,7 +110,7 @@ one_sum : (at size n : ℕ) → at + size ≤ n → sum_below (λ b. one_if (has
 one_sum at size n le = let e : at + size + (n - (at + size)) ≡ n = omega arith in rw e at (high_part at size (n - (at + size)))
 
 -- an extent all of whose bytes lie below n, wherever it stands when it has none
-some_sum : (at size n : ℕ) → ((b : ℕ) → 0 < one_if (has_byte (extent at size) b) → b < n) → sum_below (λ b. one_if (has_byte (extent at size) b)) n ≡ size
+pub some_sum : (at size n : ℕ) → ((b : ℕ) → 0 < one_if (has_byte (extent at size) b) → b < n) → sum_below (λ b. one_if (has_byte (extent at size) b)) n ≡ size
 some_sum at zero n inside = sum_even (λ b. one_if (has_byte (extent at 0) b)) (λ b. 0) n (λ b. none_has at b) ∙ sum_zero n
   where
     none_has : (at b : ℕ) → one_if (has_byte (extent at 0) b) ≡ 0
@@ -122,7 +122,7 @@ some_sum at (suc size) n inside =
 
 -- ---- lists
 
-cover_sum : (es : List Extent) (n : ℕ) → ((b : ℕ) → 0 < cover es b → b < n) → sum_below (cover es) n ≡ size_sum es
+pub cover_sum : (es : List Extent) (n : ℕ) → ((b : ℕ) → 0 < cover es b → b < n) → sum_below (cover es) n ≡ size_sum es
 cover_sum [] n inside = sum_zero n
 cover_sum (e ∷ es) n inside =
     let a = sum_add (λ b. one_if (has_byte e b)) (cover es) n in
@@ -140,23 +140,23 @@ slots_sum (Full hash start at k v ∷ slots) n inside =
     let ih = slots_sum slots n (λ b some. inside b (omega (arith, some))) in
     omega (arith, a, one, ih)
 
-total_is : (ks : List Held) → total ks ≡ size_sum (extents_in ks)
+pub total_is : (ks : List Held) → total ks ≡ size_sum (extents_in ks)
 total_is [] = refl
 total_is (k ∷ ks) = let ih = total_is ks in omega (arith, ih)
 
 -- ---- one file
 
 module _ (file : List ℕ) (h : Header) (i next : ℕ) (pool : List Extent) (li : i < entries_of h) (right : IsSpaceRight file h next pool) where
-  parts_in : (b : ℕ) → cover (free_of file h i) b + count (slot_has b) (slots_at (block_of file h i) h.elems) + cover pool b ≤ all_cover file h pool b
+  pub parts_in : (b : ℕ) → cover (free_of file h i) b + count (slot_has b) (slots_at (block_of file h i) h.elems) + cover pool b ≤ all_cover file h pool b
   unfolding all_cover bucket_cover
   parts_in b =
       let s = bucket_in_all file h i next pool (slots_at (block_of file h i) h.elems) [] li right (λ p e. ap (count p) (sym (append-nil (slots_at (block_of file h i) h.elems)))) b in
       omega (arith, s)
 
-  free_sum : (n : ℕ) → next ≤ n → sum_below (cover (free_of file h i)) n ≡ size_sum (free_of file h i)
+  pub free_sum : (n : ℕ) → next ≤ n → sum_below (cover (free_of file h i)) n ≡ size_sum (free_of file h i)
   free_sum n le = cover_sum (free_of file h i) n (λ b some. let l = right.below b (let p = parts_in b in omega (arith, p, some)) in omega (arith, l, le))
 
-  pool_sum : (n : ℕ) → next ≤ n → sum_below (cover pool) n ≡ size_sum pool
+  pub pool_sum : (n : ℕ) → next ≤ n → sum_below (cover pool) n ≡ size_sum pool
   pool_sum n le = cover_sum pool n (λ b some. let l = right.below b (let p = parts_in b in omega (arith, p, some)) in omega (arith, l, le))
 
   some_slots_sum : (some rest : List Slot) → SameSlots (slots_at (block_of file h i) h.elems) (some ++ rest) → (n : ℕ) → next ≤ n → sum_below (λ b. count (slot_has b) some) n ≡ slot_sizes some
@@ -168,13 +168,13 @@ module _ (file : List ℕ) (h : Header) (i next : ℕ) (pool : List Extent) (li 
       let l = right.below b (let p = parts_in b in omega (arith, p, c, e, a)) in
       omega (arith, l, le))
 
-held_sum : (file : List ℕ) (h : Header) (next : ℕ) (pool : List Extent) → IsSpaceRight file h next pool → ((b : ℕ) → cover (extents_in (extents_held file h)) b ≡ all_cover file h pool b) → (n : ℕ) → next ≤ n → sum_below (all_cover file h pool) n ≡ total (extents_held file h)
+pub held_sum : (file : List ℕ) (h : Header) (next : ℕ) (pool : List Extent) → IsSpaceRight file h next pool → ((b : ℕ) → cover (extents_in (extents_held file h)) b ≡ all_cover file h pool b) → (n : ℕ) → next ≤ n → sum_below (all_cover file h pool) n ≡ total (extents_held file h)
 held_sum file h next pool right covers n le =
     sum_even (all_cover file h pool) (cover (extents_in (extents_held file h))) n (λ b. sym (covers b))
     ∙ cover_sum (extents_in (extents_held file h)) n (λ b some. let c = covers b in let l = right.below b (omega (arith, c, some)) in omega (arith, l, le))
     ∙ sym (total_is (extents_held file h))
 
-space_of : (file : List ℕ) → IsSound file → IsSpaceRight file (header_of (front_of file)) (header_of (front_of file)).next_block (pool_of file (header_of (front_of file)))
+pub space_of : (file : List ℕ) → IsSound file → IsSpaceRight file (header_of (front_of file)) (header_of (front_of file)).next_block (pool_of file (header_of (front_of file)))
 space_of file sound = let b = sound_blocks file sound in subst (λ (p : List Extent). IsSpaceRight file (header_of (front_of file)) (header_of (front_of file)).next_block p) (sym b.2) b.1.file_is.space
 
 pub total_fits : (file : List ℕ) → IsSound file → total (extents file) ≤ (header_of (front_of file)).next_block
@@ -274,3 +274,10 @@ module _ (old new : List ℕ) (key : List ℕ) (blocks : List StackBlock) (gone 
       let b = total_fits new sound_new in
       let g = change.grows in
       omega (arith, t, a, b, g, le)
+
+pub lost_by_totals : (old new : List ℕ) (away come more : ℕ) → IsSound old → IsSound new → (header_of (front_of old)).next_block ≤ (header_of (front_of new)).next_block → total (extents new) + away ≡ total (extents old) + come → away + ((header_of (front_of new)).next_block - (header_of (front_of old)).next_block) ≤ come + more → lost_total new ≤ lost_total old + more
+unfolding lost_total
+lost_by_totals old new away come more sound_old sound_new grows totals spent =
+    let a = total_fits old sound_old in
+    let b = total_fits new sound_new in
+    omega (arith, a, b, grows, totals, spent)

@@ -18,3 +18,4 @@ pub mod Writes
 pub mod NewFile
 pub mod Beside
 pub mod SplitWrites
+pub mod SplitSums

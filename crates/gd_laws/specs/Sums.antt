@@ -29,7 +29,7 @@ TotalFits = (file : List ℕ) → IsSound file → total (extents file) ≤ (fil
 -- what a change of one key makes of all extents
 abbrev pub TotalChanges : Type 0
 TotalChanges =
-    (old new : List ℕ) (key : List ℕ) (blocks : List StackBlock) (gone come rest : List Slot) → IsSound old → IsSound new → ChangeWritten old new key blocks gone come rest
+    (old new : List ℕ) (key : List ℕ) (blocks : List StackBlock) (gone come rest : List Slot) → IsSound old → ChangeWritten old new key blocks gone come rest
     → total (extents new) + free_size old (file_header old) (index_of (file_header old) key) + slot_sizes gone
     ≡ total (extents old) + free_size new (file_header new) (index_of (file_header old) key) + slot_sizes come
 
@@ -39,4 +39,11 @@ LostChanges =
     (old new : List ℕ) (key : List ℕ) (blocks : List StackBlock) (gone come rest : List Slot) (more : ℕ) → IsSound old → IsSound new → ChangeWritten old new key blocks gone come rest
     → free_size old (file_header old) (index_of (file_header old) key) + slot_sizes gone + ((file_header new).next_block - (file_header old).next_block)
     ≤ free_size new (file_header new) (index_of (file_header old) key) + slot_sizes come + more
+    → lost_total new ≤ lost_total old + more
+
+-- the same of any change that makes this of the extents
+abbrev pub LostByTotals : Type 0
+LostByTotals =
+    (old new : List ℕ) (away come more : ℕ) → IsSound old → IsSound new → (file_header old).next_block ≤ (file_header new).next_block
+    → total (extents new) + away ≡ total (extents old) + come → away + ((file_header new).next_block - (file_header old).next_block) ≤ come + more
     → lost_total new ≤ lost_total old + more

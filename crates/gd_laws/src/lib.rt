@@ -15,8 +15,9 @@ ghost use Rattle.gd_laws.specs.Sounds.{BelowIsAvail, BelowIsRight, BlocksMakeSou
 ghost use Rattle.gd_laws.specs.Space.{SpaceLaw};
 ghost use Rattle.gd_laws.specs.Split.{SplitLaw, DoubleLaw};
 ghost use Rattle.gd_laws.specs.SplitSpace.{SplitSpaceLaw, DoubleSpaceLaw};
+ghost use Rattle.gd_laws.specs.SplitSums.{DoubleTotals, SplitTotals};
 ghost use Rattle.gd_laws.specs.SplitWrites.{SplitFromWrites};
-ghost use Rattle.gd_laws.specs.Sums.{LostChanges, TotalChanges, TotalFits};
+ghost use Rattle.gd_laws.specs.Sums.{LostByTotals, LostChanges, TotalChanges, TotalFits};
 ghost use Rattle.gd_laws.specs.Update.{SlotsLaw, FileLaw, OneKeyLaw};
 ghost use Rattle.gd_laws.specs.Whole.{DeleteKeepsSound, StoreKeepsSound};
 ghost use Rattle.gd_laws.specs.WholeSplit.{DoubleKeepsSound, SplitKeepsSound};
@@ -151,6 +152,7 @@ pub fn sums_change()
     ensures fits { TotalFits }
     ensures total { TotalChanges }
     ensures lost { LostChanges }
+    ensures any { LostByTotals }
 {}
 
 /// A split and a doubling over a whole sound file: it stays sound, and its map stays.
@@ -177,4 +179,10 @@ pub fn beside_is_kept()
 /// A split by what it writes.
 pub fn split_by_writes()
     ensures { SplitFromWrites }
+{}
+
+/// What a split and a doubling make of all extents.
+pub fn sums_split()
+    ensures split { SplitTotals }
+    ensures double { DoubleTotals }
 {}

@@ -5,6 +5,7 @@ pub returns : goal.returns
 returns c =
     record {
       fits = sums.total_fits;
-      total = λ old new key blocks gone come rest sound sound_new wrote. sums.total_changes old new key blocks gone come rest sound wrote;
+      total = sums.total_changes;
       lost = λ old new key blocks gone come rest more sound sound_new wrote. sums.lost_changes old new key blocks gone come rest sound wrote more sound_new;
+      any = sums.lost_by_totals;
     }
