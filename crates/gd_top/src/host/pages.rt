@@ -89,13 +89,7 @@ impl Pages {
     }
 
     /// Copies what the page of a place has from there on.
-    pub fn copy(
-        &mut self,
-        file: &File,
-        text: Text,
-        at: u64,
-        buf: &mut [u8],
-    ) -> io::Result<usize>
+    pub fn copy(&mut self, file: &File, text: Text, at: u64, buf: &mut [u8]) -> io::Result<usize>
         ensures { IfOk result (λ n. n ≤ length buf.new) }
     {
         let page = self.page(file, text, at / PAGE as u64)?;
