@@ -29,7 +29,7 @@ module _ (file : List ℕ) (h : Header) where
   unfolding run_at
   run_pos i = pow_pos _
 
-  starts : (s : ℕ) → entry_fault file h s ≡ None → Starts file h s
+  pub starts : (s : ℕ) → entry_fault file h s ≡ None → Starts file h s
   unfolding entry_fault is_block_in run_fault
   starts s none =
       let a = or_else-none _ _ none in
@@ -48,7 +48,7 @@ module _ (file : List ℕ) (h : Header) where
       }
 
   -- each entry is in a run that was judged
-  walk_covers : (n covered i : ℕ) → entries_fault file h n covered i ≡ None → (k : ℕ) → i + covered ≤ k → k < i + n → (s : ℕ) × (s ≤ k) × (k < s + run_at file h s) × (entry_fault file h s ≡ None)
+  pub walk_covers : (n covered i : ℕ) → entries_fault file h n covered i ≡ None → (k : ℕ) → i + covered ≤ k → k < i + n → (s : ℕ) × (s ≤ k) × (k < s + run_at file h s) × (entry_fault file h s ≡ None)
   walk_covers zero covered i none k low high = absurd (omega arith)
   walk_covers (suc n) (suc covered) i none k low high = walk_covers n covered (i + 1) none k (omega arith) (omega arith)
   walk_covers (suc n) zero i none k low high =

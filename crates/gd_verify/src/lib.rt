@@ -16,6 +16,7 @@ mod walking;
 mod whole;
 
 pub use crate::checking::readable;
+pub use crate::reading::{Stopped, file_len, fill, read_some};
 pub use crate::records::Records;
 pub use crate::walking::Walk;
 pub use crate::whole::{check, file_refusal};
