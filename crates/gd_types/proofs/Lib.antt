@@ -1,4 +1,6 @@
+mod Again
 mod Appending
+mod Back
 mod Cuts
 mod Finding
 mod Making

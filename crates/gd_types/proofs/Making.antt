@@ -88,7 +88,7 @@ text-push [] m h = or-false (is_text m)
 text-push (x ∷ xs) m h =
     rw (any-head x xs h) (text-push xs m (or-right (is_text x) (list_any is_text xs) h))
 
-not-true : (b : Bool) → not b ≡ true → b ≡ false
+pub not-true : (b : Bool) → not b ≡ true → b ≡ false
 not-true true h = cc
 not-true false h = refl
 
