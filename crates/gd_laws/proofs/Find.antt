@@ -1,5 +1,5 @@
--- A look-up in a bucket by probing, and what changes of slots keep.
-use Rattle.std.proofs.Common.{◌≡◌, ℕ, zero, suc, ◌+◌, ◌-◌, ◌*◌, ◌%◌, ◌<◌, ◌≤◌, Bool, true, false, ◌&&◌, leb, ltb, List, [], ◌∷◌, length, take, get_or, set, Some, None, ◌↔◌, ◌⊎◌, refl, ap, ◌∙◌, inl, inr, arith}
+-- A look-up in a bucket by probing, and growth of the space.
+use Rattle.std.proofs.Common.{◌≡◌, ℕ, zero, suc, ◌+◌, ◌-◌, ◌*◌, ◌%◌, ◌<◌, ◌≤◌, Bool, true, false, ◌&&◌, leb, ltb, List, [], ◌∷◌, length, take, get_or, Some, None, ◌↔◌, ◌⊎◌, refl, ap, ◌∙◌, inl, inr, arith}
 use Rattle.std.specs.Prelude.{◌==◌, ◌^◌, nat_le}
 use Rattle.std.specs.Str.{bytes_eq}
 use Rattle.std.proofs.lemmas.Bool.{cases_lt, leb-true}
@@ -120,11 +120,6 @@ present file bits top elems slots key s hash start at k v right lt is same =
     let c = count_at_least (slot_test file (has_pair key value)) slots Empty s lt here in
     let e = count_records file (has_pair key value) slots in
     lookup_finds key value (slot_records file slots) (right.once key) (omega (arith, c, e))
-
-pub set_slots : (slots : List Slot) (s : ℕ) (slot : Slot) → s < length slots → (p : Slot → Bool) → p Empty ≡ false → count p (get_or slots s Empty ∷ set slots s slot) ≡ count p (slot ∷ slots)
-set_slots [] s slot lt p e = absurd (omega arith)
-set_slots (x ∷ xs) zero slot lt p e = omega arith
-set_slots (x ∷ xs) (suc s) slot lt p e = let ih = set_slots xs s slot (omega arith) p e in omega (arith, ih)
 
 grown-one : (a b x : ℕ) → a ≤ x → x < b → grown a b x ≡ 1
 grown-one a b x le lt = let e : (leb a x && ltb x b) ≡ true = grind (arith, nat_tests) in rw e refl

@@ -22,6 +22,7 @@ pub mod NewFile
 pub mod Beside
 pub mod SplitWrites
 pub mod SplitSums
+pub mod Fronts
 pub mod DoubleSpace
 pub mod Split
 pub mod Double

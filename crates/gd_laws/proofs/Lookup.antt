@@ -42,7 +42,7 @@ count_one key true x = omega arith
 count_one key false x = refl
 
 module _ (file block : List ℕ) where
-  slots_more : (n : ℕ) → slot_records file (slots_at block (suc n)) ≡ slot_records file (slots_at block n) ++ cond (is_full_at block n) (record_of file (raw_slot_at block n) ∷ []) []
+  pub slots_more : (n : ℕ) → slot_records file (slots_at block (suc n)) ≡ slot_records file (slots_at block n) ++ cond (is_full_at block n) (record_of file (raw_slot_at block n) ∷ []) []
   unfolding is_full_at
   slots_more n =
       flat_map-append (slot_record file) (slots_at block n) (slot_of (raw_slot_at block n) ∷ [])
@@ -121,7 +121,7 @@ records_joined file =
     (λ i. bucket_records_is file (bytes_at file (natural (entry_at file h i)) h.block) h.elems)
 
 -- the number of a field that is one
-number_is : (z : ℤ) (n : ℕ) → is_number z n ≡ true → natural z ≡ n
+pub number_is : (z : ℤ) (n : ℕ) → is_number z n ≡ true → natural z ≡ n
 number_is (pos m) n h = (Decides-eqb m n).0 h
 number_is (negsuc m) n h = absurd cc
 

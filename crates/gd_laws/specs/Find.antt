@@ -1,11 +1,11 @@
--- A look-up in a bucket by probing, and what changes of slots keep.
-use Rattle.std.specs.Prelude.{◌≡◌, ℕ, ◌+◌, ◌-◌, ◌%◌, ◌<◌, ◌≤◌, ◌↔◌, ◌⊎◌, Bool, true, false, List, [], ◌∷◌, length, take, get_or, set, Some, None}
+-- A look-up in a bucket by probing, and growth of the space.
+use Rattle.std.specs.Prelude.{◌≡◌, ℕ, ◌+◌, ◌-◌, ◌%◌, ◌<◌, ◌≤◌, ◌↔◌, ◌⊎◌, Bool, true, false, List, [], ◌∷◌, length, take, get_or, Some, None}
 use Rattle.std.specs.Str.{bytes_eq}
 use Rattle.gd_format.specs.declared.Slot.{Slot}
 use Rattle.gd_format.specs.declared.Slot.TheVariants.{Empty, Full}
 use Rattle.gd_format.specs.Hash.{hash_of}
 use Rattle.gd_format.specs.Field.{bytes_at}
-use Rattle.gd_format.specs.Slots.{count, is_full, SameSlots}
+use Rattle.gd_format.specs.Slots.{count, is_full}
 use Rattle.gd_format.specs.Sound.{extent}
 use Rattle.gd_format.specs.Covers.{cover}
 use Rattle.gd_laws.specs.Lookup.{lookup, slot_records}
@@ -52,10 +52,6 @@ abbrev pub FieldsOfKey : Type 0
 FieldsOfKey =
     (file : List ℕ) (bits top elems : ℕ) (slots : List Slot) (key : List ℕ) (s hash : ℕ) (start : List ℕ) (at k v : ℕ) → AreSlotsRight file bits top elems slots
     → s < length slots → get_or slots s Empty ≡ Full hash start at k v → bytes_at file at k ≡ key → AreKeyFields key hash start k
-
--- one place that is set
-abbrev pub SetSlots : Type 0
-SetSlots = (slots : List Slot) (s : ℕ) (slot : Slot) → s < length slots → SameSlots (get_or slots s Empty ∷ set slots s slot) (slot ∷ slots)
 
 -- growth as an extent
 abbrev pub GrownIsExtent : Type 0

@@ -19,3 +19,4 @@ pub mod NewFile
 pub mod Beside
 pub mod SplitWrites
 pub mod SplitSums
+pub mod Fronts

@@ -3,8 +3,9 @@
 
 ghost use Rattle.gd_laws.specs.Beside.{BesideKeepsSound};
 ghost use Rattle.gd_laws.specs.Change.{DeleteLaw, KeyLaw, StoreLaw};
-ghost use Rattle.gd_laws.specs.Find.{AbsentByCount, AbsentByProbes, FieldsOfKey, KeyOnce, PresentBySlot, SetSlots, GrownAdds, GrownIsExtent};
+ghost use Rattle.gd_laws.specs.Find.{AbsentByCount, AbsentByProbes, FieldsOfKey, KeyOnce, PresentBySlot, GrownAdds, GrownIsExtent};
 ghost use Rattle.gd_laws.specs.Frame.{StaysLaw, KeepsJoin, KeepsMore, WriteKeeps, WrittenReads, WrittenSize, StaysAsideLaw};
+ghost use Rattle.gd_laws.specs.Fronts.{FrontLaw, RecordsCount};
 ghost use Rattle.gd_laws.specs.Lookup.{LookupExact, RecordsOnce};
 ghost use Rattle.gd_laws.specs.Maps.{MapsByLookup, SameMaps, MapWith, MapWithout};
 ghost use Rattle.gd_laws.specs.NewFile.{NewIsSound};
@@ -27,6 +28,7 @@ ghost use Rattle.gd_laws.specs.Writes.{WritesLaw};
 pub fn lookup_is_exact()
     ensures exact { LookupExact }
     ensures once { RecordsOnce }
+    ensures count { RecordsCount }
 {}
 
 /// A bucket is right exactly where its slots are.
@@ -87,14 +89,17 @@ pub fn key_changes()
     ensures delete { DeleteLaw }
 {}
 
-/// What probing tells, and steps that a store joins.
-pub fn steps_of_store()
+/// What probing tells of a key, and what its slot has.
+pub fn look_up_by_probes()
     ensures absent { AbsentByProbes }
     ensures present { PresentBySlot }
     ensures once { KeyOnce }
     ensures fields { FieldsOfKey }
     ensures none { AbsentByCount }
-    ensures set { SetSlots }
+{}
+
+/// Growth of the space, as an extent and by steps.
+pub fn growth_adds()
     ensures grown { GrownIsExtent }
     ensures adds { GrownAdds }
 {}
@@ -185,4 +190,9 @@ pub fn split_by_writes()
 pub fn sums_split()
     ensures split { SplitTotals }
     ensures double { DoubleTotals }
+{}
+
+/// The front of a file and its table are those of the header's block.
+pub fn front_is_read()
+    ensures { FrontLaw }
 {}
