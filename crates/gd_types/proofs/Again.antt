@@ -1,12 +1,12 @@
 -- What was encoded is printed as the words.
-use Rattle.std.proofs.Common.{◌≡◌, ◌∙◌, ap, ap₂, sym, refl, subst, ℕ, zero, suc, ◌+◌, ◌-◌, ◌*◌, ◌^◌, ◌<◌, ◌≤◌, ◌==◌, ◌&&◌, not, Bool, true, false, nat_lt, nat_le, if◌then◌else◌, List, [], ◌∷◌, ◌++◌, length, take, drop, replicate, slice_get, ℤ, pos, negsuc, Option, Some, None, Result, Ok, Err, ◌⊎◌, inl, inr, arith, length-append, length-drop}
+use Rattle.std.proofs.Common.{◌≡◌, ◌∙◌, ap, sym, refl, subst, ℕ, zero, suc, ◌+◌, ◌-◌, ◌*◌, ◌^◌, ◌≤◌, ◌==◌, ◌&&◌, not, Bool, true, false, nat_lt, nat_le, if◌then◌else◌, List, [], ◌∷◌, ◌++◌, length, take, drop, replicate, slice_get, ℤ, pos, negsuc, Option, Some, None, Result, Ok, Err, inl, inr, arith, length-append}
 use Rattle.std.specs.Fmt.{signed_decimal}
 use Rattle.std.specs.List.{flat_map, list_any}
-use Rattle.std.proofs.lemmas.List.{append-nil, append_assoc, drop_at, drop_all, length-replicate, take_all, take_at}
+use Rattle.std.proofs.lemmas.List.{append-nil, append_assoc, drop_at, length-replicate, take_at}
 use Rattle.std.proofs.lemmas.Bool.Decides.{nat_tests}
 use Rattle.byteorder.specs.Numbers.{length-bytes_low_first}
-use Rattle.gd_types.specs.Decoding.{datum_fault, datum_text, kind_fault, kind_text, last_member, left_fault, member_text, rest_fault, typed_text, unless, zero_fault}
-use Rattle.gd_types.specs.Encoding.{before, held_bytes, member_bytes, one_bytes, typed_bytes, value_count, word_bytes, words_after}
+use Rattle.gd_types.specs.Decoding.{datum_fault, datum_text, kind_fault, kind_text, last_member, left_fault, member_text, rest_fault, unless, zero_fault}
+use Rattle.gd_types.specs.Encoding.{before, held_bytes, member_bytes, value_count, word_bytes, words_after}
 use Rattle.gd_types.specs.Members.{Defined, fits_at, goes_on, has_room, is_made_from, is_text, is_within, place_after, placed, reached, reached_from}
 use Rattle.gd_types.specs.Numerals.{held_number, numeral, word_number}
 use Rattle.gd_types.specs.Printing.{joined, printed}

@@ -1,9 +1,9 @@
 -- Bytes that are put behind others, member by member.
-use Rattle.std.proofs.Common.{◌≡◌, ◌∙◌, ap, sym, refl, subst, ℕ, ◌+◌, ◌<◌, ◌≤◌, ◌^◌, Bool, true, false, ◌==◌, if◌then◌else◌, List, [], ◌∷◌, ◌++◌, length, get_or, drop, Result, Ok, Err, arith}
+use Rattle.std.proofs.Common.{◌≡◌, ◌∙◌, ap, sym, refl, subst, ℕ, ◌+◌, ◌<◌, ◌≤◌, ◌^◌, Bool, true, false, ◌==◌, if◌then◌else◌, List, [], ◌∷◌, ◌++◌, length, get_or, drop, Result, Ok, Err}
 use Rattle.std.specs.List.{list_any}
 use Rattle.std.proofs.lemmas.List.{append-nil, append_assoc, drop_more, drop_all}
-use Rattle.gd_types.specs.Encoding.{Appends, Encodes, Refuses, before, member_bytes, one_bytes, word_bytes, words_after}
-use Rattle.gd_types.specs.Members.{fits_at, is_made_from, is_text, place_after}
+use Rattle.gd_types.specs.Encoding.{Appends, Refuses, before, member_bytes, one_bytes, word_bytes, words_after}
+use Rattle.gd_types.specs.Members.{is_made_from, is_text, place_after}
 use Rattle.gd_types.specs.Rows.{ZeroEnded}
 use Rattle.gd_types.specs.declared.errors.EncodeError.{EncodeError}
 use Rattle.gd_types.specs.declared.errors.EncodeError.TheVariants.{Typed, OutOfMemory}

@@ -1,11 +1,11 @@
 -- The bytes of a number are read back.
-use Rattle.std.proofs.Common.{◌≡◌, ◌∙◌, ap, sym, refl, ℕ, zero, suc, ◌+◌, ◌-◌, ◌*◌, ◌^◌, ◌<◌, Bool, true, false, nat_lt, if◌then◌else◌, List, ◌++◌, ℤ, pos, negsuc, ◌-ℤ◌, arith}
+use Rattle.std.proofs.Common.{◌≡◌, ◌∙◌, ap, refl, ℕ, zero, suc, ◌+◌, ◌-◌, ◌*◌, ◌^◌, ◌<◌, Bool, true, false, nat_lt, if◌then◌else◌, List, ◌++◌, ℤ, pos, negsuc, ◌-ℤ◌, arith}
 use Rattle.std.proofs.lemmas.Bool.Decides.{nat_tests}
 use Rattle.std.proofs.lemmas.Int.{ints}
 use Rattle.byteorder.specs.Endian.{little_bytes, little_number, twos_complement}
 use Rattle.byteorder.specs.Numbers.{little_number-reads_back}
 use Rattle.gd_types.specs.RoundTrip.{ScalarsReadBack}
-use Rattle.gd_types.specs.Rows.{is_held, is_width, number_bytes, number_in, scalar_bytes, scalar_holds, scalar_number}
+use Rattle.gd_types.specs.Rows.{is_held, is_width, number_bytes, number_in}
 use Rattle.gd_types.proofs.Widths.{by_width}
 
 -- a number's two's complement, as a number without a sign

@@ -1,5 +1,5 @@
 -- Numbers that are cut to what no type holds.
-use Rattle.std.proofs.Common.{◌≡◌, ◌∙◌, ap, sym, refl, ℕ, suc, zero, ◌+◌, ◌-◌, ◌*◌, ◌^◌, ◌<◌, ◌≤◌, min, Bool, true, false, ◌⊎◌, inl, inr, List, length, take, get_or, ℤ, pos, negsuc, neg_ℤ, Option, Some, None, option_map, Result, Ok, Err, ◌&&◌, nat_lt, if◌then◌else◌, lit≤, arith}
+use Rattle.std.proofs.Common.{◌≡◌, ◌∙◌, ap, sym, refl, ℕ, suc, zero, ◌+◌, ◌-◌, ◌*◌, ◌^◌, ◌<◌, ◌≤◌, min, Bool, true, false, inl, inr, List, length, take, get_or, ℤ, pos, negsuc, neg_ℤ, Option, Some, None, option_map, Result, Ok, Err, ◌&&◌, nat_lt, if◌then◌else◌, lit≤, arith}
 use Rattle.std.proofs.Math.Nat.{mul-le-mul_right, mul-le-mul_left}
 use Rattle.std.proofs.lemmas.Bool.{cases_lt}
 use Rattle.std.proofs.lemmas.Int.Digits.{digits_value_more}

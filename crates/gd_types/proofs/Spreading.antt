@@ -1,5 +1,5 @@
 -- Texts that are put one after another.
-use Rattle.std.proofs.Common.{◌≡◌, ◌∙◌, ap, sym, refl, subst, ℕ, ◌+◌, ◌<◌, ◌≤◌, ◌==◌, ◌^◌, ◌&&◌, nat_le, not, Bool, true, false, if◌then◌else◌, List, [], ◌∷◌, ◌++◌, length, get_or, take, drop, Option, Some, None, arith}
+use Rattle.std.proofs.Common.{◌≡◌, ◌∙◌, ap, sym, refl, subst, ℕ, ◌+◌, ◌<◌, ◌≤◌, ◌==◌, ◌^◌, ◌&&◌, nat_le, not, Bool, true, false, if◌then◌else◌, List, [], ◌∷◌, ◌++◌, length, get_or, take, drop, Some, None, arith}
 use Rattle.std.specs.List.{flat_map}
 use Rattle.std.proofs.lemmas.List.{append-nil, append_assoc, drop_all, drop_more, take_more, take-append-drop}
 use Rattle.std.proofs.lemmas.Bool.Decides.{nat_tests}
@@ -11,8 +11,7 @@ use Rattle.gd_types.specs.declared.members.Member.TheVariants.{Row, Float, Doubl
 use Rattle.gd_types.proofs.Appending.{made-next}
 use Rattle.gd_types.proofs.Making.{and-left, and-right, fits-low, made-fits}
 use Rattle.gd_types.specs.Printing.{joined, lead_of, printed, printed_byte, spread}
-use Rattle.gd_types.specs.declared.errors.TypeError.{TypeError}
-use Rattle.gd_types.specs.declared.errors.TypeError.TheVariants.{Short, Trailing}
+use Rattle.gd_types.specs.declared.errors.TypeError.TheVariants.{Trailing}
 
 pub flat-append : {X : Type 0} (f : X → List ℕ) (xs ys : List X) → flat_map f (xs ++ ys) ≡ flat_map f xs ++ flat_map f ys
 flat-append f [] ys = refl

@@ -1,6 +1,6 @@
 -- Numbers of 1, 2, 4 and 8 bytes.
-use Rattle.std.proofs.Common.{◌≡◌, ◌∙◌, ap, sym, refl, subst, ℕ, suc, ◌-◌, ◌*◌, ◌^◌, ◌<◌, ◌%◌, Bool, true, false, ◌||◌, ◌==◌, ◌⊎◌, inl, inr, nat_lt, ℤ, pos, negsuc, arith}
-use Rattle.std.specs.Int.{w128, cast_unsigned}
+use Rattle.std.proofs.Common.{◌≡◌, ap, sym, subst, ℕ, Bool, true, false, ◌⊎◌, inl, inr, ℤ, pos, negsuc, arith}
+use Rattle.std.specs.Int.{w128}
 use Rattle.std.proofs.lemmas.Bool.Decides.{nat_tests}
 use Rattle.byteorder.specs.Endian.{little_bytes, low_bytes}
 use Rattle.gd_types.specs.Rows.{is_held, is_width, number_bytes}

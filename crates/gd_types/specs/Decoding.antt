@@ -1,5 +1,5 @@
 -- The text of a datum under a definition.
-use Rattle.std.specs.Prelude.{◌≡◌, ⊤, Bool, true, false, ℕ, ◌-◌, ◌==◌, nat_lt, if◌then◌else◌, List, [], ◌∷◌, ◌++◌, length, take, drop, slice_get, ℤ, Option, Some, None, Result, Ok, Err}
+use Rattle.std.specs.Prelude.{◌≡◌, ⊤, ℕ, ◌-◌, ◌==◌, nat_lt, if◌then◌else◌, List, [], ◌∷◌, length, take, drop, slice_get, Option, Some, None, Result, Ok, Err}
 use Rattle.std.specs.Fmt.{signed_decimal}
 use Rattle.std.specs.List.{flat_map}
 use Rattle.gd_base.specs.Streams.{WritesFront, and_then}
@@ -13,7 +13,7 @@ use Rattle.gd_types.specs.declared.errors.DecodeError.TheVariants.{Typed, Failed
 use Rattle.gd_types.specs.declared.errors.TypeError.{TypeError}
 use Rattle.gd_types.specs.declared.errors.TypeError.TheVariants.{Short, Trailing}
 use Rattle.gd_types.specs.declared.members.Member.{Member}
-use Rattle.gd_types.specs.declared.members.Member.TheVariants.{Row, Float, Double, Off, Pad}
+use Rattle.gd_types.specs.declared.members.Member.TheVariants.{Row}
 
 -- a text that ends in its first NUL
 abbrev pub zero_fault : List ℕ → Option TypeError

@@ -1,5 +1,5 @@
 -- The bytes of words under a definition.
-use Rattle.std.specs.Prelude.{◌≡◌, ⊤, ℕ, ◌-◌, Bool, ◌==◌, if◌then◌else◌, List, [], ◌∷◌, ◌++◌, length, drop, replicate, ℤ, count_by, Result, Ok, Err}
+use Rattle.std.specs.Prelude.{◌≡◌, ⊤, ℕ, ◌-◌, ◌==◌, if◌then◌else◌, List, [], ◌∷◌, ◌++◌, length, drop, replicate, ℤ, count_by, Result, Ok, Err}
 use Rattle.std.specs.List.{list_any}
 use Rattle.gd_types.specs.Members.{Defined, has_value, place_after}
 use Rattle.gd_types.specs.Numerals.{word_number}

@@ -1,15 +1,15 @@
 -- What was encoded is read again.
-use Rattle.std.specs.Prelude.{◌≡◌, ℕ, ◌<◌, true, false, Bool, List, [], ◌∷◌, ◌++◌, ℤ, pos, Result, Ok, Err}
+use Rattle.std.specs.Prelude.{◌≡◌, ℕ, ◌<◌, true, Bool, List, [], ◌∷◌, ◌++◌, ℤ, Result, Ok, Err}
 use Rattle.std.specs.Fmt.{signed_decimal}
 use Rattle.gd_types.specs.Decoding.{typed_text}
 use Rattle.gd_types.specs.Encoding.{typed_bytes}
 use Rattle.gd_types.specs.Members.{Defined, accepts}
 use Rattle.gd_types.specs.Numerals.{word_number}
 use Rattle.gd_types.specs.Printing.{joined, printed}
-use Rattle.gd_types.specs.Rows.{Kind, Byte, Number, Rest, ZeroEnded, kind_of, scalar_bytes, scalar_holds, scalar_number}
+use Rattle.gd_types.specs.Rows.{Kind, Number, kind_of, scalar_bytes, scalar_holds, scalar_number}
 use Rattle.gd_types.specs.declared.errors.TypeError.{TypeError}
 use Rattle.gd_types.specs.declared.members.Member.{Member}
-use Rattle.gd_types.specs.declared.members.Member.TheVariants.{Row, Float, Double, Off, Pad}
+use Rattle.gd_types.specs.declared.members.Member.TheVariants.{Row}
 
 -- the bytes of each row with a width read back as the number, whatever stands behind them
 abbrev pub ScalarsReadBack : Type 0

@@ -1,6 +1,5 @@
-use Rattle.std.proofs.Common.{◌++◌, ◌+◌, ◌&&◌, List, ℕ, not, ap, arith, drop, get_or, subst}
+use Rattle.std.proofs.Common.{◌++◌, ◌+◌, ◌&&◌, List, ℕ, not, arith, drop, get_or, subst}
 use Rattle.std.specs.List.{flat_map}
-use Rattle.gd_base.specs.Pages.{Pends}
 use Rattle.gd_base.specs.Streams.{WritesFront}
 use Rattle.gd_base.proofs.Waits.{Waits, pends-after, pends-front, waits-more}
 use Rattle.gd_types.specs.Decoding.{member_text}

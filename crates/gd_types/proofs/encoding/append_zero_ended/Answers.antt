@@ -1,4 +1,4 @@
-use Rattle.std.proofs.Common.{◌≡◌, ◌∙◌, ◌==◌, sym, false, Ok}
+use Rattle.std.proofs.Common.{◌≡◌, ◌∙◌, ◌==◌, sym, false}
 use Rattle.std.specs.List.{list_any}
 use Rattle.gd_types.proofs.Appending.{appends-zero}
 use Rattle.gd_types.proofs.encoding.append_zero_ended.Goals as goal

@@ -1,4 +1,4 @@
-use Rattle.std.proofs.Common.{◌∙◌, ◌≡◌, ◌+◌, ◌*◌, ◌^◌, arith, min, get_or}
+use Rattle.std.proofs.Common.{◌≡◌, ◌+◌, ◌*◌, ◌^◌, arith, min, get_or}
 use Rattle.std.specs.Char.{digit_value}
 use Rattle.gd_types.proofs.Cuts.{product-of, value-step}
 use Rattle.gd_types.proofs.numerals.value.Goals as goal

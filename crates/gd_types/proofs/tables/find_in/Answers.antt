@@ -1,4 +1,3 @@
-use Rattle.std.proofs.Common.{◌≡◌, sym}
 use Rattle.gd_types.proofs.Finding.{found-another, found-first, found-none}
 use Rattle.gd_types.proofs.tables.find_in.Goals as goal
 use Rattle.gd_types.proofs.tables.find_in.Goals.{then-starts_with+in-Missing, else-starts_with}

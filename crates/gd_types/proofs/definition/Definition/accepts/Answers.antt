@@ -1,4 +1,4 @@
-use Rattle.std.proofs.Common.{◌≡◌, ◌≤◌, ◌^◌, arith}
+use Rattle.std.proofs.Common.{arith}
 use Rattle.gd_types.proofs.Making.{reached-low}
 use Rattle.gd_types.proofs.definition.Definition.accepts.Goals as goal
 
