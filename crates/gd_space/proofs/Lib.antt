@@ -10,5 +10,6 @@ pub mod Dones
 pub mod BlockReads
 pub mod Fits
 pub mod Tables
+pub mod Trials
 pub mod Gives
 pub mod Fills

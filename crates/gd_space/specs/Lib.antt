@@ -6,3 +6,4 @@ pub mod Lists
 pub mod Calls
 pub mod Spells
 pub mod SpaceLaws
+pub mod Trial

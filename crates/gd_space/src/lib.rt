@@ -10,11 +10,19 @@ mod grow;
 mod half;
 mod laws;
 mod lists;
+#[cfg(test)]
+mod marks;
 mod push;
 mod room;
+#[cfg(test)]
+mod small_vault;
 mod space;
 mod stack;
 mod take;
+#[cfg(test)]
+mod tests;
+#[cfg(test)]
+mod trial;
 
 pub use crate::laws::{give_gains, stays_apart, take_loses, used_is_kept};
 pub use crate::space::Space;
