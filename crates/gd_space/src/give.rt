@@ -1,6 +1,6 @@
 //! Gives room back, and changes the capacity of the table.
 
-ghost use Rattle.std.specs.Prelude.{◌≡◌, ◌≢◌, ◌⊎◌, ◌+◌, ◌-◌, ◌*◌, ◌<◌, ◌≤◌, ◌^◌, ℕ, length, max, [], IfOk, IfErr, OnOk, OnErr};
+ghost use Rattle.std.specs.Prelude.{◌≡◌, ◌≢◌, ◌⊎◌, ◌+◌, ◌-◌, ◌*◌, ◌/◌, ◌<◌, ◌≤◌, ◌^◌, ℕ, length, max, [], ◌∷◌, ◌++◌, IfOk, IfErr, OnOk, OnErr};
 ghost use Rattle.std.specs.List.{AllByRecursion};
 ghost use Rattle.gd_base.specs.Causes.{Rose};
 ghost use Rattle.gd_format.specs.Avail.{avail_size};
@@ -105,6 +105,8 @@ pub fn make_room<V: Vault>(
     requires fields { AllByRecursion FitsExtent table.old.extents }
     ensures done { OnOk result (Done (V.view_of vault.old) (V.view_of vault.new) f.0 header.old header.new table.old.next_block table.new.next_block table.old.extents bucket.old.free table.new.extents bucket.new.free [] [] 32) }
     ensures header { OnOk result (header.new ≡ record header.old { next_block = header.new.next_block }) }
+    ensures had_room { length table.old.extents < header.old.avail_size → (table.new ≡ table.old) × (bucket.new ≡ bucket.old) }
+    ensures half { OnOk result (header.old.avail_size ≤ length table.old.extents → length table.new.extents + header.old.avail_size / 2 ≤ length table.old.extents) }
     ensures growth { OnOk result (header.new.next_block ≡ header.old.next_block + room_growth header.old table.old.extents bucket.old.free) }
     ensures below { OnOk result (header.new.next_block ≤ 2 ^ 46) }
     ensures length { OnOk result (length table.new.extents < header.old.avail_size) }
@@ -166,6 +168,10 @@ pub fn give<V: Vault>(
     requires fields { AllByRecursion FitsExtent table.old.extents }
     ensures gave { OnOk result (Gave (V.view_of vault.old) (V.view_of vault.new) f.0 header.old header.new table.old.next_block table.new.next_block table.old.extents bucket.old.free table.new.extents bucket.new.free extent) }
     ensures header { OnOk result (header.new ≡ record header.old { next_block = header.new.next_block }) }
+    ensures small { extent.size ≤ 4 → (table.new ≡ table.old) × (bucket.new ≡ bucket.old) × (header.new ≡ header.old) }
+    ensures in_bucket { 4 < extent.size → length bucket.old.free < 6 → (table.new ≡ table.old) × (bucket.new ≡ record bucket.old { free = bucket.old.free ++ extent ∷ [] }) }
+    ensures in_table { OnOk result (4 < extent.size → 6 ≤ length bucket.old.free → length table.old.extents < header.old.avail_size → (table.new ≡ record table.old { extents = table.old.extents ++ extent ∷ [] }) × (bucket.new ≡ bucket.old)) }
+    ensures half { OnOk result (4 < extent.size → 6 ≤ length bucket.old.free → header.old.avail_size ≤ length table.old.extents → length table.new.extents + header.old.avail_size / 2 ≤ header.old.avail_size + 1) }
     ensures growth { OnOk result (header.new.next_block ≡ header.old.next_block + give_growth extent header.old table.old.extents bucket.old.free) }
     ensures below { OnOk result (header.new.next_block ≤ 2 ^ 46) }
     ensures length { length table.new.extents ≤ header.old.avail_size }
@@ -237,6 +243,7 @@ pub fn recut<V: Vault>(
     requires fields { AllByRecursion FitsExtent table.old.extents }
     ensures done { OnOk result (Done (V.view_of vault.old) (V.view_of vault.new) f.0 header.old header.new table.old.next_block table.new.next_block table.old.extents bucket.old.free table.new.extents bucket.new.free [] [] header.old.block) }
     ensures header { OnOk result (header.new ≡ record header.old { next_block = header.new.next_block; avail_size = capacity }) }
+    ensures fitted { length table.old.extents ≤ capacity → (table.new ≡ table.old) × (bucket.new ≡ bucket.old) }
     ensures growth { OnOk result (header.new.next_block ≡ header.old.next_block + recut_growth capacity header.old table.old.extents bucket.old.free) }
     ensures below { OnOk result (header.new.next_block ≤ 2 ^ 46) }
     ensures length { OnOk result (length table.new.extents ≤ capacity) }

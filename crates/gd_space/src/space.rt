@@ -1,6 +1,6 @@
 //! The free space of one file.
 
-ghost use Rattle.std.specs.Prelude.{◌≡◌, ◌≢◌, ◌⊎◌, ◌+◌, ◌*◌, ◌<◌, ◌≤◌, ◌^◌, ℕ, true, false, Some, length, [], ◌∷◌, ◌++◌, IfOk, IfErr, OnOk, OnErr};
+ghost use Rattle.std.specs.Prelude.{◌≡◌, ◌≢◌, ◌⊎◌, ◌+◌, ◌*◌, ◌/◌, ◌<◌, ◌≤◌, ◌^◌, ℕ, true, false, Some, length, [], ◌∷◌, ◌++◌, IfOk, IfErr, OnOk, OnErr};
 ghost use Rattle.std.specs.List.{AllByRecursion};
 ghost use Rattle.gd_base.specs.Causes.{Rose};
 ghost use Rattle.gd_layout.specs.Fits.{FitsExtent};
@@ -209,6 +209,10 @@ impl Space {
         requires at { extent.at < 2 ^ 63 }
         requires side { HasFreeSide (V.view_of vault.old) f.0 header.old self.old.table.next_block self.old.table.extents bucket.old.free }
         ensures gave { OnOk result (Gave (V.view_of vault.old) (V.view_of vault.new) f.0 header.old header.new self.old.table.next_block self.new.table.next_block self.old.table.extents bucket.old.free self.new.table.extents bucket.new.free extent) }
+        ensures small { extent.size ≤ 4 → (self.new.table ≡ self.old.table) × (bucket.new ≡ bucket.old) × (header.new ≡ header.old) }
+        ensures in_bucket { 4 < extent.size → length bucket.old.free < 6 → (self.new.table ≡ self.old.table) × (bucket.new ≡ record bucket.old { free = bucket.old.free ++ extent ∷ [] }) }
+        ensures in_table { OnOk result (4 < extent.size → 6 ≤ length bucket.old.free → length self.old.table.extents < header.old.avail_size → (self.new.table ≡ record self.old.table { extents = self.old.table.extents ++ extent ∷ [] }) × (bucket.new ≡ bucket.old)) }
+        ensures half { OnOk result (4 < extent.size → 6 ≤ length bucket.old.free → header.old.avail_size ≤ length self.old.table.extents → length self.new.table.extents + header.old.avail_size / 2 ≤ header.old.avail_size + 1) }
         ensures growth { OnOk result (header.new.next_block ≡ header.old.next_block + give_growth extent header.old self.old.table.extents bucket.old.free) }
         ensures below { OnOk result (header.new.next_block ≤ 2 ^ 46) }
         ensures header { OnOk result (header.new ≡ record header.old { next_block = header.new.next_block }) }
@@ -258,6 +262,7 @@ impl Space {
         requires most { capacity ≤ table_room header.old.magic header.old.block }
         requires side { HasFreeSide (V.view_of vault.old) f.0 header.old self.old.table.next_block self.old.table.extents bucket.old.free }
         ensures done { OnOk result (Done (V.view_of vault.old) (V.view_of vault.new) f.0 header.old header.new self.old.table.next_block self.new.table.next_block self.old.table.extents bucket.old.free self.new.table.extents bucket.new.free [] [] header.old.block) }
+        ensures fitted { length self.old.table.extents ≤ capacity → (self.new.table ≡ self.old.table) × (bucket.new ≡ bucket.old) }
         ensures growth { OnOk result (header.new.next_block ≡ header.old.next_block + recut_growth capacity header.old self.old.table.extents bucket.old.free) }
         ensures below { OnOk result (header.new.next_block ≤ 2 ^ 46) }
         ensures header { OnOk result (header.new ≡ record header.old { next_block = header.new.next_block; avail_size = capacity }) }
