@@ -358,6 +358,138 @@ fn damaged_files_are_refused(rt: HostRuntime) -> Result<(), Fail> {
     )
 }
 
+// The worked file, with some of its bytes changed and its end cut off.
+#[derive(Clone, Copy)]
+struct Change<'a> {
+    bytes: &'a [(usize, u8)],
+    len: usize,
+    error: &'a str,
+}
+
+fn changed(alloc: Global, change: &Change) -> Result<Vec<u8>, Fail> {
+    let one = [K];
+    let mut file = file_of(
+        alloc,
+        &Layout {
+            free: (510, 1538),
+            ..plain(512, &one)
+        },
+    )?;
+    for (at, byte) in change.bytes {
+        let Some(place) = file.get_mut(*at) else {
+            return Err("a place in the file".into());
+        };
+        *place = *byte;
+    }
+    file.truncate(change.len);
+    Ok(file)
+}
+
+// Its slot 7, moved to the slot 8.
+const MOVED: [(usize, u8); 12] = [
+    (1304, 0xff),
+    (1305, 0xff),
+    (1306, 0xff),
+    (1307, 0xff),
+    (1328, 0x17),
+    (1329, 0x83),
+    (1330, 0x09),
+    (1331, 0x1b),
+    (1332, 0x6b),
+    (1337, 0x06),
+    (1344, 1),
+    (1348, 1),
+];
+
+#[test]
+fn changed_bytes_are_refused(rt: HostRuntime) -> Result<(), Fail> {
+    let alloc = rt.alloc();
+    let rows: [(&[(usize, u8)], usize, &str); 14] = [
+        (&[(28, 0x11)], 1538, "7 BadHeader"),
+        (&[], 1023, "7 BadHeader"),
+        (&[], 40, "7 BadHeader"),
+        (&[(553, 0x08)], 1538, "8 BadDirEntry 5"),
+        (&[], 1535, "8 BadDirEntry 0"),
+        (&[(1128, 0x01)], 1538, "8 BadDirEntry 32"),
+        (&[(1128, 0x07)], 1538, "9 BadBucket 1024"),
+        (&[(1024, 0x07)], 1538, "9 BadBucket 1024"),
+        (&[(1132, 0x02)], 1538, "10 BadHashTable 1024"),
+        (&MOVED, 1538, "10 BadHashTable 1024"),
+        (&[(1324, 0x02)], 1538, "11 BadHashEntry 1024 7"),
+        (&[(1536, 0x6c)], 1538, "11 BadHashEntry 1024 7"),
+        (&[], 1537, "11 BadHashEntry 1024 7"),
+        (&[(1304, 0x18)], 1538, "11 BadHashEntry 1024 7"),
+    ];
+    for (bytes, len, error) in rows {
+        let change = Change { bytes, len, error };
+        check_refusal(&rt, alloc, changed(alloc, &change)?, change.error)?;
+    }
+    Ok(())
+}
+
+// A second free extent that covers the record does not matter to a reader.
+#[test]
+fn free_space_over_a_record_is_passed_over(rt: HostRuntime) -> Result<(), Fail> {
+    let alloc = rt.alloc();
+    let covered = Change {
+        bytes: &[(1024, 2), (1048, 2), (1057, 0x06)],
+        len: 1538,
+        error: "",
+    };
+    let mut vault = vault_of(alloc, "data/a.gdbm", changed(alloc, &covered)?)?;
+    let ran = run_over(alloc, &["data/a.gdbm"], &mut vault, &[], &[])?;
+    let text = format!(in alloc; "{HEAD}{ONE}")?;
+    assert_eq!(&rt; ran.status, 0);
+    assert_eq!(&rt; ran.out.bytes(), text.as_bytes());
+    Ok(())
+}
+
+// The fields of the numsync format end at 72.
+#[test]
+fn fronts_of_a_numsync_file_are_refused(rt: HostRuntime) -> Result<(), Fail> {
+    let alloc = rt.alloc();
+    for block in [512, 768] {
+        let numsync = Layout {
+            magic: 0x1357_9ad1,
+            ..plain(block, &[])
+        };
+        let mut file = file_of(alloc, &numsync)?;
+        file.truncate(60);
+        check_refusal(&rt, alloc, file, "3 ShortFile")?;
+    }
+    Ok(())
+}
+
+// A call of the vault that fails, whichever it is, leaves a front of the dump.
+#[test]
+fn faults_of_the_vault_leave_a_front(rt: HostRuntime) -> Result<(), Fail> {
+    let alloc = rt.alloc();
+    let long = [b'a'; 6000];
+    let two = [Record { value: &long, ..K }, HIGH];
+    let layout = plain(512, &two);
+    let mut vault = vault_of(alloc, "a", file_of(alloc, &layout)?)?;
+    let whole = run_over(alloc, &["a"], &mut vault, &[], &[])?;
+    assert_eq!(&rt; whole.status, 0);
+    let mut begun = false;
+    for call in 0..1000 {
+        let mut vault = vault_of(alloc, "a", file_of(alloc, &layout)?)?;
+        vault.fail_calls(CallList::from_slice(alloc, &[call])?);
+        let ran = run_over(alloc, &["a"], &mut vault, &[], &[])?;
+        if ran.status == 0 {
+            break;
+        }
+        begun = begun || !ran.out.bytes().is_empty();
+        assert_eq!(&rt; ran.status, 1);
+        assert!(&rt; whole.out.bytes().starts_with(ran.out.bytes()));
+        assert_eq!(&rt;
+            ran.err.bytes(),
+            b"gdbm_dump: error 27 VaultFault\n".as_slice()
+        );
+    }
+    assert!(&rt; begun);
+    Ok(())
+}
+
 #[test]
 fn words_and_names_are_refused(rt: HostRuntime) -> Result<(), Fail> {
     let alloc = rt.alloc();
@@ -522,6 +654,30 @@ fn ranges_of_a_host_file(rt: HostRuntime) -> Result<(), Fail> {
     assert!(rt; vault.len(FileId(77)) == Err(Failed));
     assert_eq!(rt; vault.faults(), 2);
     Ok(fs::remove_file(&rt, "ranges")?)
+}
+
+// Small reads go through pages that are kept: each change of the file is seen, and so is its end.
+#[test]
+fn pages_of_a_host_file(rt: HostRuntime) -> Result<(), Fail> {
+    let alloc = rt.alloc();
+    let name = Name::new(alloc, "pages")?;
+    let mut vault = HostVault::new(&rt, alloc);
+    let f = vault.create(&name, Mode::Both).map_err(|_| "a new file")?;
+    let mut buf = *b"....";
+    assert!(rt; vault.write_at(f, 0, &[b'a'; 4098]) == Ok(()));
+    assert!(rt; vault.read_at(f, 4094, &mut buf) == Ok(4));
+    assert_eq!(rt; buf, *b"aaaa");
+    assert!(rt; vault.write_at(f, 4095, b"bcd") == Ok(()));
+    assert!(rt; vault.read_at(f, 4094, &mut buf) == Ok(4));
+    assert_eq!(rt; buf, *b"abcd");
+    assert!(rt; vault.read_at(f, 4096, &mut buf) == Ok(2));
+    assert!(rt; vault.write_at(f, 4098, b"ef") == Ok(()));
+    assert!(rt; vault.read_at(f, 4096, &mut buf) == Ok(4));
+    assert_eq!(rt; buf, *b"cdef");
+    assert!(rt; vault.truncate(f) == Ok(()));
+    assert!(rt; vault.read_at(f, 4096, &mut buf) == Ok(0));
+    assert_eq!(rt; vault.faults(), 0);
+    Ok(fs::remove_file(&rt, "pages")?)
 }
 
 #[test]

@@ -326,7 +326,13 @@ fn refuses_wrong_heads(rt: HostRuntime) {
 
 #[test]
 fn refuses_wrong_data(rt: HostRuntime) {
-    let rows: [(&[u8], &[u8], DumpKind, u64); 19] = [
+    let rows: [(&[u8], &[u8], DumpKind, u64); 20] = [
+        (
+            b"# GDBM dump file created by gdbm_dump\n#:version=1.1\n#:file=a.gdbm\n#:format=standard\n# End of header\n#:len=1\naw==\n#:len=1\ndg==\n#:count=2\n# End of data\n",
+            b"head standard a.gdbm k=v ",
+            DumpKind::Count,
+            126,
+        ),
         (
             b"#:version=1.1\n# End of header\n#:len=3\nYWE=\n#",
             b"head ",

@@ -7,19 +7,23 @@ use std::test::Fail;
 /// A row, a word, and the bytes or the refusal.
 type NumberRow<'a> = (u32, &'a str, Result<&'a [u8], TypeError>);
 
-const ENDS: [NumberRow<'static>; 24] = [
+const ENDS: [NumberRow<'static>; 32] = [
     (1, "-32768", Ok(&[0, 0x80])),
     (1, "32767", Ok(&[0xff, 0x7f])),
     (1, "32768", Err(TypeError::Range)),
+    (1, "-32769", Err(TypeError::Range)),
     (2, "0", Ok(&[0, 0])),
     (2, "65535", Ok(&[0xff, 0xff])),
     (2, "65536", Err(TypeError::Range)),
+    (2, "-1", Err(TypeError::Text)),
     (3, "-2147483648", Ok(&[0, 0, 0, 0x80])),
     (3, "2147483647", Ok(&[0xff, 0xff, 0xff, 0x7f])),
     (3, "-2147483649", Err(TypeError::Range)),
+    (3, "2147483648", Err(TypeError::Range)),
     (4, "0", Ok(&[0, 0, 0, 0])),
     (4, "4294967295", Ok(&[0xff; 4])),
     (4, "4294967296", Err(TypeError::Range)),
+    (4, "-1", Err(TypeError::Text)),
     (5, "-9223372036854775808", Ok(&[0, 0, 0, 0, 0, 0, 0, 0x80])),
     (
         5,
@@ -27,9 +31,11 @@ const ENDS: [NumberRow<'static>; 24] = [
         Ok(&[0xff, 0xff, 0xff, 0xff, 0xff, 0xff, 0xff, 0x7f]),
     ),
     (5, "9223372036854775808", Err(TypeError::Range)),
+    (5, "-9223372036854775809", Err(TypeError::Range)),
     (6, "0", Ok(&[0; 8])),
     (6, "18446744073709551615", Ok(&[0xff; 8])),
     (6, "18446744073709551616", Err(TypeError::Range)),
+    (6, "-1", Err(TypeError::Text)),
     (7, "-9223372036854775808", Ok(&[0, 0, 0, 0, 0, 0, 0, 0x80])),
     (
         7,
@@ -37,9 +43,11 @@ const ENDS: [NumberRow<'static>; 24] = [
         Ok(&[0xff, 0xff, 0xff, 0xff, 0xff, 0xff, 0xff, 0x7f]),
     ),
     (7, "-9223372036854775809", Err(TypeError::Range)),
+    (7, "9223372036854775808", Err(TypeError::Range)),
     (8, "0", Ok(&[0; 8])),
     (8, "18446744073709551615", Ok(&[0xff; 8])),
     (8, "18446744073709551616", Err(TypeError::Range)),
+    (8, "-1", Err(TypeError::Text)),
 ];
 
 const TEXTS: [NumberRow<'static>; 22] = [
