@@ -1,6 +1,6 @@
 //! The free space of one file.
 
-ghost use Rattle.std.specs.Prelude.{◌≡◌, ◌≢◌, ◌⊎◌, ◌+◌, ◌*◌, ◌/◌, ◌<◌, ◌≤◌, ◌^◌, ℕ, true, false, Some, length, [], ◌∷◌, ◌++◌, IfOk, IfErr, OnOk, OnErr};
+ghost use Rattle.std.specs.Prelude.{◌≡◌, ◌≢◌, ◌⊎◌, ◌+◌, ◌*◌, ◌/◌, ◌<◌, ◌≤◌, ◌^◌, ℕ, true, false, Some, length, [], ◌∷◌, ◌++◌, IfOk, IfErr, IfSome, OnOk, OnErr};
 ghost use Rattle.std.specs.List.{AllByRecursion};
 ghost use Rattle.gd_base.specs.Causes.{Rose};
 ghost use Rattle.gd_layout.specs.Fits.{FitsExtent};
@@ -129,6 +129,31 @@ impl Space {
         };
         read_table(vault, f, header, &mut table, &mut buf)?;
         Ok(Space {
+            table,
+            spare,
+            buf,
+            block: header.block,
+        })
+    }
+
+    /// The free space of a file whose table has no extent, and whose stack has no block. Takes the room for all further calls.
+    #[tactic(auto, using(crate::proofs::Fits::bounds))]
+    pub fn empty(alloc: Global, header: &Header) -> Option<Space>
+        requires header { IsHeader header.now }
+        ensures block { IfSome result (λ s. s.block ≡ header.now.block) }
+        ensures table { IfSome result (λ s. s.table ≡ record { extents = []; next_block = 0; room = most_of header.now }) }
+    {
+        let room = (header.block - 56) / 16;
+        let Ok(table) = AvailBlock::new(alloc, room) else {
+            return None;
+        };
+        let Ok(spare) = AvailBlock::new(alloc, room) else {
+            return None;
+        };
+        let Ok(buf) = vec![in alloc; 0u8; header.block as usize] else {
+            return None;
+        };
+        Some(Space {
             table,
             spare,
             buf,
