@@ -114,6 +114,10 @@ module _ (front : List ℕ) (len : ℕ) (none : header_fault_of front len ≡ No
         words = λ standard. rw standard (refl, refl, refl);
       }
 
+  pub header_native : is_native (header_of front).magic ≡ true
+  unfolding header_of
+  header_native = native
+
   pub header_is : IsHeaderOf (header_of front) len
   unfolding header_of
   header_is =

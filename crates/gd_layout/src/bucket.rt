@@ -121,6 +121,16 @@ impl Bucket {
         })
     }
 
+    /// Takes out all slots and free extents, and sets the bits. Takes no memory.
+    pub fn clear(&mut self, bits: u32)
+        requires { bits ≤ 24 }
+        ensures { self.new ≡ record { bits = bits; free = []; slots = replicate (length self.old.slots) Slot.Empty } }
+    {
+        self.bits = bits;
+        self.free.clear();
+        self.slots.fill(Slot::Empty);
+    }
+
     /// How many of the top bits of the hash its keys share.
     pub fn bits(&self) -> u32
         ensures is { result ≡ self.now.bits }

@@ -2,7 +2,7 @@
 
 ghost use Rattle.std.specs.Prelude.{◌≡◌, ◌+◌, ◌*◌, ◌<◌, ◌≤◌, ◌^◌, true, None, Some, [], ◌∷◌, ◌++◌, length, IfOk, IfErr, IfSome};
 ghost use Rattle.std.specs.List.{All};
-ghost use Rattle.gd_format.specs.HeaderFault.{dir_size_of, header_of};
+ghost use Rattle.gd_format.specs.HeaderFault.{dir_size_of, header_of, is_native};
 ghost use Rattle.gd_format.specs.Headers.{IsHeader};
 ghost use Rattle.gd_layout.specs.Fits.{FitsHeader};
 ghost use Rattle.gd_format.specs.File.{front_of};
@@ -161,6 +161,7 @@ pub fn sound<V: Vault>(alloc: Global, vault: &mut V, f: FileId) -> Result<Header
     ensures asks { OnlyAsks (V.view_of vault.old) (V.view_of vault.new) }
     ensures header { IfOk result IsHeader }
     ensures fits { IfOk result FitsHeader }
+    ensures native { IfOk result (λ h. is_native h.magic ≡ true) }
     ensures sound { IfOk result (λ h. IsAt (V.view_of vault.old) (λ c. (x : File) → c.files f.0 ≡ Some x → (sound_fault x.bytes ≡ None) × (h ≡ header_of (front_of x.bytes)))) }
     ensures refused { IfErr result (λ e. RefusesSound e f.0 (V.view_of vault.old) (V.view_of vault.new)) }
 {

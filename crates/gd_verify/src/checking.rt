@@ -3,7 +3,7 @@
 ghost use Rattle.std.specs.Prelude.{◌≡◌, ℕ, ◌+◌, ◌-◌, ◌*◌, ◌/◌, ◌%◌, ◌^◌, ◌<◌, ◌≤◌, true, false, not, cond, nat_eq, length, IfOk, IfErr, IfNone, IfSome, Some, None, pos};
 ghost use Rattle.std.specs.HashSet.{contains};
 ghost use Rattle.gd_format.specs.First.{first_below};
-ghost use Rattle.gd_format.specs.HeaderFault.{header_fault_of, header_of, natural};
+ghost use Rattle.gd_format.specs.HeaderFault.{header_fault_of, header_of, is_native, natural};
 ghost use Rattle.gd_format.specs.Headers.{IsHeader};
 ghost use Rattle.gd_layout.specs.Fits.{FitsHeader};
 ghost use Rattle.gd_format.specs.File.{block_of, dir_fault, entry_at, entry_fault, file_fault, front_of, is_block_in, is_first, run_at, run_fault};
@@ -273,7 +273,7 @@ fn buckets_refusal<V: Vault>(
 }
 
 // The header of a file of `len` bytes, or the first of its faults.
-#[tactic(auto, using(gd_layout::proofs::HeaderFields::header_fits, crate::proofs::Asks::cause_later, crate::proofs::Headers::header_in, crate::proofs::Headers::header_is, crate::proofs::Refusals::header_kind, crate::proofs::Fronts::front_read))]
+#[tactic(auto, using(gd_layout::proofs::HeaderFields::header_fits, gd_layout::proofs::HeaderFields::header_native, crate::proofs::Asks::cause_later, crate::proofs::Headers::header_in, crate::proofs::Headers::header_is, crate::proofs::Refusals::header_kind, crate::proofs::Fronts::front_read))]
 fn stored_header<V: Vault>(
     vault: &mut V,
     f: FileId,
@@ -287,6 +287,7 @@ fn stored_header<V: Vault>(
     ensures inside { IfOk result (λ r. IfOk r (λ h. IsHeaderIn h len)) }
     ensures own { IfOk result (λ r. IfOk r IsHeader) }
     ensures fits { IfOk result (λ r. IfOk r FitsHeader) }
+    ensures native { IfOk result (λ r. IfOk r (λ h. is_native h.magic ≡ true)) }
     ensures header { IfOk result (λ r. IfOk r (λ h. Tells (bytes_in (kept_of (V.view_of vault.old)) f.0) (λ file. length file ≡ len → (header_fault_of (front_of file) len ≡ None) × (h ≡ header_of (front_of file))))) }
     ensures refused { IfOk result (λ r. IfErr r (λ e. Tells (bytes_in (kept_of (V.view_of vault.old)) f.0) (λ file. length file ≡ len → header_fault_of (front_of file) len ≡ Some e))) }
 {
@@ -316,6 +317,7 @@ fn checked<V: Vault>(
     ensures kind { IfOk result (λ r. IfErr r (λ e. is_of_file e ≡ true)) }
     ensures own { IfOk result (λ r. IfOk r IsHeader) }
     ensures fits { IfOk result (λ r. IfOk r FitsHeader) }
+    ensures native { IfOk result (λ r. IfOk r (λ h. is_native h.magic ≡ true)) }
     ensures readable { IfOk result (λ r. IfOk r (λ h. Tells (bytes_in (kept_of (V.view_of vault.old)) f.0) (λ file. (file_fault file ≡ None) × (h ≡ header_of (front_of file))))) }
     ensures refused { IfOk result (λ r. IfErr r (λ e. Tells (bytes_in (kept_of (V.view_of vault.old)) f.0) (λ file. file_fault file ≡ Some e))) }
 {
@@ -341,6 +343,7 @@ pub fn readable<V: Vault>(alloc: Global, vault: &mut V, f: FileId) -> Result<Hea
     ensures asks { OnlyAsks (V.view_of vault.old) (V.view_of vault.new) }
     ensures header { IfOk result IsHeader }
     ensures fits { IfOk result FitsHeader }
+    ensures native { IfOk result (λ h. is_native h.magic ≡ true) }
     ensures readable { IfOk result (λ h. IsAt (V.view_of vault.old) (λ c. (x : File) → c.files f.0 ≡ Some x → (file_fault x.bytes ≡ None) × (h ≡ header_of (front_of x.bytes)))) }
     ensures refused { IfErr result (λ e. RefusesFile e f.0 (V.view_of vault.old) (V.view_of vault.new)) }
 {
