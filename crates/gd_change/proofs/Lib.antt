@@ -1,0 +1,10 @@
+pub mod Files
+pub mod Puts
+pub mod Places
+pub mod Records
+pub mod Backs
+pub mod Sizes
+pub mod Bases
+pub mod Whole
+pub mod Results
+pub mod Gone

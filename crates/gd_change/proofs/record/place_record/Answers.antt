@@ -1,0 +1,50 @@
+use Rattle.std.proofs.Common.{◌++◌, arith, length-append}
+use Rattle.gd_space.specs.Calls.{free_lists}
+use Rattle.gd_change.proofs.Files.{still_there, told_before}
+use Rattle.gd_change.proofs.Puts.{put_both}
+use Rattle.gd_change.proofs.Records.{record_put}
+use Rattle.gd_change.proofs.record.place_record.Goals as goal
+
+pub put_bytes-requires-clause-file : goal.put_bytes-requires-clause-file
+put_bytes-requires-clause-file g c = still_there (g.V.Vault.view_of c.args.vault.now) (g.V.Vault.view_of c.take_room.new.vault) c.args.f.0 c.in_ok-place.ensures.frame c.requires.file
+
+pub put_bytes-requires-clause-place : goal.put_bytes-requires-clause-place
+put_bytes-requires-clause-place g c = λ k told x there.
+    let old = told_before (g.V.Vault.view_of c.args.vault.now) (g.V.Vault.view_of c.take_room.new.vault) k c.in_ok-place.ensures.frame told in
+    let file = c.requires.file old.0 old.1 in
+    let ends = c.in_ok-place.ensures.inside old.0 old.1 file.0 file.1 in
+    let below = c.in_ok-place.ensures.below in
+    omega (arith, ends, below)
+
+pub put_bytes-requires-2-clause-file : goal.put_bytes-requires-2-clause-file
+put_bytes-requires-2-clause-file g c =
+    still_there (g.V.Vault.view_of c.take_room.new.vault) (g.V.Vault.view_of c.put_bytes.new.vault) c.args.f.0 c.in_ok-put_bytes.ensures.frame
+    (still_there (g.V.Vault.view_of c.args.vault.now) (g.V.Vault.view_of c.take_room.new.vault) c.args.f.0 c.in_ok-place.ensures.frame c.requires.file)
+
+pub put_bytes-requires-2-clause-place : goal.put_bytes-requires-2-clause-place
+put_bytes-requires-2-clause-place g c = λ k told x there.
+    let mid = told_before (g.V.Vault.view_of c.take_room.new.vault) (g.V.Vault.view_of c.put_bytes.new.vault) k c.in_ok-put_bytes.ensures.frame told in
+    let old = told_before (g.V.Vault.view_of c.args.vault.now) (g.V.Vault.view_of c.take_room.new.vault) mid.0 c.in_ok-place.ensures.frame mid.1 in
+    let file = c.requires.file old.0 old.1 in
+    let ends = c.in_ok-place.ensures.inside old.0 old.1 file.0 file.1 in
+    let below = c.in_ok-place.ensures.below in
+    omega (arith, ends, below)
+
+pub returns-clause-put : goal.returns-clause-put
+returns-clause-put g c = λ k x blocks told there side.
+    let a = c.in_ok-place.ensures.done k x blocks told there side in
+    let p = c.in_ok-put_bytes.ensures.put a.content a.file a.told a.there in
+    let q = c.in_ok-put_bytes-2.ensures.put p.content p.file p.told p.there in
+    let len = length-append c.args.key.now c.args.value.now in
+    let whole = put_both a.file.bytes p.file.bytes q.file.bytes c.in_ok-place.place c.args.key.now c.args.value.now p.is q.is in
+    let ends = c.in_ok-place.ensures.inside k told x there in
+    record {
+      content = q.content;
+      file = q.file;
+      blocks = a.blocks;
+      told = q.told;
+      there = q.there;
+      put = record_put x.bytes a.file.bytes q.file.bytes c.args.header.now c.take_room.new.header c.args.space.now.table.next_block c.take_room.new.space.table.next_block
+          (free_lists c.args.space.now.table.extents blocks c.args.bucket.now.free) (free_lists c.take_room.new.space.table.extents a.blocks c.take_room.new.bucket.free) c.in_ok-place.place (c.args.key.now ++ c.args.value.now) 32
+          side (rw len a.change) whole (omega (arith, len, ends));
+    }

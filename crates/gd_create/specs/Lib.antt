@@ -1,0 +1,4 @@
+pub mod NewFile
+pub mod Begun
+pub mod Stands
+pub mod Laws

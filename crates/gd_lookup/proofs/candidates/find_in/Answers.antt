@@ -1,0 +1,48 @@
+use Rattle.std.proofs.Common.{◌≡◌, true, false, Some, length, get_or, ap, sym, ◌∙◌, rules, arith}
+use Rattle.gd_format.specs.declared.Slot.TheVariants.{Empty}
+use Rattle.gd_bucket.specs.Probing.{slot_after, HasNoCandidate}
+use Rattle.gd_laws.specs.Find.{is_slot_of}
+use Rattle.gd_verify.specs.Asks.{bytes_in, kept_of}
+use Rattle.gd_verify.proofs.Asks.{told_then}
+use Rattle.gd_lookup.proofs.Keys.{absent_of, lies, own_slot, passed_on}
+use Rattle.gd_lookup.proofs.candidates.find_in.Goals as goal
+
+pub returns-in_default-clause-absent : goal.returns-in_default-clause-absent
+returns-in_default-clause-absent g c =
+    λ file told.
+    let none : HasNoCandidate c.args.bucket.now.slots c.args.hash c.args.key.now c.candidates.from = rw c.in_default.is at c.find.ensures.none in
+    absent_of file c.args.key.now c.args.bucket.now.slots (c.requires.bucket file told) c.args.hash c.requires.hash c.candidates.from (c.candidates.invariant.passed file told) none
+
+pub is_own-requires-clause-inside : goal.is_own-requires-clause-inside
+is_own-requires-clause-inside g c =
+    λ file told.
+    let told_first : bytes_in (kept_of (g.V.Vault.view_of c.args.vault.now)) c.args.f.0 ≡ Some file = told_then _ _ c.args.f.0 file (sym c.candidates.invariant.same) told in
+    let below = c.place_from_home-place.ensures.below in
+    let len : length c.slots-slots.result.now ≡ length c.args.bucket.now.slots = ap length c.slots-slots.ensures.are in
+    let bucket = c.requires.bucket file told_first in
+    rw c.slots-slots.ensures.are (lies file c.args.key.now c.args.bucket.now.slots bucket c.place_from_home-place.result (omega (arith, below, len)))
+
+pub returns-then-own-clause-present : goal.returns-then-own-clause-present
+returns-then-own-clause-present g c =
+    λ file told.
+    let told_one = told_then _ _ c.args.f.0 file c.candidates.invariant.same told in
+    let own : is_slot_of file c.args.key.now (get_or c.args.bucket.now.slots c.place_from_home-place.result Empty) ≡ true = rw c.slots-slots.ensures.are at (sym (c.in_ok-own.ensures.own file told_one) ∙ c.if-own.true) in
+    let below = c.place_from_home-place.ensures.below in
+    let len : length c.slots-slots.result.now ≡ length c.args.bucket.now.slots = ap length c.slots-slots.ensures.are in
+    own_slot file c.args.key.now c.args.bucket.now.slots (c.requires.bucket file told) c.place_from_home-place.result (omega (arith, below, len)) own
+
+pub candidates-preserved : goal.candidates-preserved
+candidates-preserved g c =
+    let old = c.candidates.invariant in
+    let next = c.in-Some.ensures.found in
+    record {
+      far = let high = next.high in omega (arith, high);
+      same = search rules;
+      later = omega (arith, old.later, c.in_ok-own.ensures.later);
+      passed =
+          λ file told.
+          let told_one = told_then _ _ c.args.f.0 file old.same told in
+          let own : is_slot_of file c.args.key.now (get_or c.args.bucket.now.slots c.place_from_home-place.result Empty) ≡ false = rw c.slots-slots.ensures.are at (sym (c.in_ok-own.ensures.own file told_one) ∙ c.if-own.false) in
+          let here : is_slot_of file c.args.key.now (slot_after c.args.bucket.now.slots c.args.hash c.in-Some.distance) ≡ false = search rules in
+          passed_on file c.args.key.now c.args.bucket.now.slots (c.requires.bucket file told) c.args.hash c.requires.hash c.candidates.from c.in-Some.distance (old.passed file told) next here;
+    }

@@ -1,0 +1,16 @@
+use Rattle.std.proofs.Common.{◌≡◌, ◌-◌, ◌<◌, ◌≤◌, ℕ, false, length}
+use Rattle.gd_bucket.specs.Probing.{slot_after}
+use Rattle.gd_laws.specs.Find.{is_slot_of}
+use Rattle.gd_verify.specs.Asks.{kept_of, bytes_in, Tells}
+use Rattle.gd_lookup.proofs.candidates.find_in.Given as goal
+
+abbrev pub invariant-candidates : goal.invariant-candidates
+invariant-candidates g l = record {
+  far : l.from ≤ length l.bucket.slots;
+  same : kept_of (g.V.Vault.view_of l.vault) ≡ kept_of (g.V.Vault.view_of l.fn.vault);
+  later : (g.V.Vault.view_of l.fn.vault).faults ≤ (g.V.Vault.view_of l.vault).faults;
+  passed : Tells (bytes_in (kept_of (g.V.Vault.view_of l.fn.vault)) l.f.0) (λ file. (e : ℕ) → e < l.from → is_slot_of file l.key (slot_after l.bucket.slots l.hash e) ≡ false);
+}
+
+abbrev pub decreases-candidates : goal.decreases-candidates
+decreases-candidates g l = length l.bucket.slots - l.from

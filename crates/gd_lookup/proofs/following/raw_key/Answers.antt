@@ -1,0 +1,30 @@
+use Rattle.std.proofs.Common.{◌≡◌, ℕ, false, length, ap, ◌∙◌, arith}
+use Rattle.gd_format.specs.Field.{bytes_at}
+use Rattle.gd_format.specs.File.{are_fields_right, key_of}
+use Rattle.gd_format.specs.HeaderFault.{natural}
+use Rattle.gd_verify.proofs.Places.{record_parts}
+use Rattle.gd_lookup.proofs.Opens.{bad_slot}
+use Rattle.gd_lookup.proofs.following.raw_key.Goals as goal
+
+pub part_of_record-requires-clause-inside : goal.part_of_record-requires-clause-inside
+part_of_record-requires-clause-inside g c =
+    λ file told some.
+    let place = c.in-Some.ensures.some in
+    let inside = (record_parts (length file) c.args.raw.now (c.requires.right file told).1).0 in
+    let all = inside (omega (arith, place.1, some)) in
+    omega (arith, place.0, place.1, all)
+
+pub returns-in_default-clause-refused : goal.returns-in_default-clause-refused
+returns-in_default-clause-refused g c =
+    bad_slot c.args.at c.args.place _ c.args.f.0 _ _
+    (λ file told.
+    let right = (c.requires.right file told).0 in
+    let bad : are_fields_right c.args.raw.now ≡ false = rw c.in_default.is at c.key_place.ensures.none in
+    absurd (cc (right, bad)))
+
+pub returns-clause-key : goal.returns-clause-key
+unfolding key_of
+returns-clause-key g c =
+    λ file told.
+    let place = c.in-Some.ensures.some in
+    c.in_ok-bytes.ensures.bytes file told ∙ ap (λ (a : ℕ). bytes_at file a c.in-Some.key.1) place.0 ∙ ap (bytes_at file (natural c.args.raw.now.at)) place.1

@@ -1,0 +1,5 @@
+pub mod Open
+pub mod Reading
+pub mod Finding
+pub mod Order
+pub mod Counting

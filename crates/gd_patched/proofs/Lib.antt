@@ -1,0 +1,6 @@
+pub mod Sized
+pub mod Meets
+pub mod Spelled
+pub mod Patches
+pub mod Kept
+pub mod Views

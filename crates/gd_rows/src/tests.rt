@@ -1,0 +1,48 @@
+use crate::sums::lost_bytes;
+use crate::trial::Trial;
+use std::test::Fail;
+
+// The next of a fixed row of numbers.
+fn next_number(state: u64) -> u64 {
+    state
+        .wrapping_mul(6_364_136_223_846_793_005)
+        .wrapping_add(1_442_695_040_888_963_407)
+}
+
+// One take or one give, as the number says.
+fn one_step(trial: Trial, number: u64) -> Option<Trial> {
+    let size = (number >> 40) % 300;
+    let len = trial.in_use();
+    if len == 0 || (number >> 60 < 8 && len < 300) {
+        return trial.take(size as u32 + 1);
+    }
+    trial.give(((number >> 20) % len as u64) as usize)
+}
+
+// A hundred of them.
+fn hundred_steps(trial: Trial, start: u64) -> Option<(Trial, u64)> {
+    let mut trial = trial;
+    let mut number = start;
+    for _i in 0..100 {
+        number = next_number(number);
+        trial = one_step(trial, number)?;
+    }
+    Some((trial, number))
+}
+
+#[test]
+fn ten_thousand_takes_and_gives(rt: HostRuntime) -> Result<(), Fail> {
+    let alloc = rt.alloc();
+    let mut trial = Trial::new(alloc)?;
+    let mut number = 1;
+    for i in 0u64..100 {
+        let Some((after, last)) = hundred_steps(trial, number) else {
+            return Err("refused".into());
+        };
+        trial = after;
+        number = last;
+        // Each call loses 32 bytes at most.
+        assert!(rt; lost_bytes(alloc, &trial)? <= (i + 1) * 3200);
+    }
+    Ok(())
+}

@@ -1,0 +1,11 @@
+pub mod Files
+pub mod Pools
+pub mod SplitParts
+pub mod DoubleParts
+pub mod Parts
+pub mod Takes
+pub mod Numbers
+pub mod Entries
+pub mod Chains
+pub mod Ends
+pub mod Settled

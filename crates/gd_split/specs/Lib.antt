@@ -1,0 +1,10 @@
+pub mod Refusals
+pub mod Turns
+pub mod Held
+pub mod Halves
+pub mod Runs
+pub mod Places
+pub mod Steps
+pub mod SplitLaws
+pub mod Settles
+pub mod Loops
