@@ -20,10 +20,10 @@ ghost use Rattle.gd_change.specs.Open.{slot_growth};
 ghost use Rattle.gd_change.specs.Steps.{SpellsBucket, SpellsHeader};
 
 use crate::slots::record_in;
-use gd_base::{DbError, Failed};
+use gd_base::DbError;
 use gd_format::{Header, Slot};
 use gd_layout::{AvailBlock, Bucket, Native};
-use gd_space::{Space, SpaceError};
+use gd_space::Space;
 use gd_vault::{FileId, Vault};
 
 // Gives back the room of a slot's record, where it has a byte.

@@ -13,7 +13,7 @@ ghost use Rattle.gd_vault.specs.Frame.{Within, OneFile, NoName};
 ghost use Rattle.gd_change.specs.Calls.{db_error_of, Goes, PutsRecord};
 ghost use Rattle.gd_change.specs.Steps.{PutAt};
 
-use gd_base::{DbError, Failed};
+use gd_base::DbError;
 use gd_format::Header;
 use gd_layout::Bucket;
 use gd_space::{Space, SpaceError};
