@@ -1,6 +1,7 @@
 //! Chains of splits in a small vault.
 
-ghost use Rattle.std.specs.Prelude.{◌≡◌, ◌≤◌, length};
+ghost use Rattle.std.specs.Prelude.{◌≡◌, ◌<◌, ◌≤◌, ◌^◌, pos, length};
+ghost use Rattle.gd_format.specs.HeaderFault.{is_block_size};
 ghost use Rattle.gd_format.specs.Slots.{count};
 ghost use Rattle.gd_laws.specs.Overflow.{is_close};
 
@@ -29,6 +30,14 @@ const WIDE: Header = Header {
     reserved: [0; 6],
     avail_size: 28,
 };
+
+// Is it the size of a block?
+#[tactic(auto, unfolding(gd_format::specs::HeaderFault::is_block_size))]
+fn is_block(n: u32) -> bool
+    ensures { result ≡ is_block_size (pos n) }
+{
+    n >= 512 && n <= 1_048_576 && n.is_power_of_two()
+}
 
 // Has a full slot a hash with the first 24 bits of this one?
 #[tactic(auto, unfolding(gd_laws::specs::Overflow::have_top))]
@@ -94,13 +103,16 @@ struct Grown {
 
 // Makes room for a hash in the bucket at 1024, which has the hashes 0, unit and so on, in a directory of so many bits at 512.
 // The calls of the vault fail from one on. None without memory, or where the call may not be made.
-#[tactic(auto, unfolding(gd_format::specs::HeaderFault::is_block_size, gd_format::specs::HeaderFault::is_native))]
-fn grown(alloc: Global, dir_bits: u32, unit: u32, hash: u32, calls: u64) -> Option<Grown>
+#[tactic(auto, unfolding(gd_format::specs::HeaderFault::is_native))]
+fn room_made(alloc: Global, dir_bits: u32, unit: u32, hash: u32, calls: u64) -> Option<Grown>
     requires few { dir_bits ≤ 6 }
     requires small { hash < 2 ^ 31 }
 {
     let mut header = WIDE;
     header.dir_bits = dir_bits;
+    if !is_block(header.block) {
+        return None;
+    }
     let mut vault = small_vault(alloc, u64::MAX)?;
     let Ok(mut space) = Space::load(alloc, &mut vault, FileId(0), &header) else {
         return None;
@@ -152,7 +164,7 @@ fn address_at(bytes: &[u8], at: usize) -> Option<i64> {
 
 #[test]
 fn a_bucket_is_split_once(rt: HostRuntime) -> Result<(), Fail> {
-    let Some(g) = grown(rt.alloc(), 6, 1 << 27, 0, u64::MAX) else {
+    let Some(g) = room_made(rt.alloc(), 6, 1 << 27, 0, u64::MAX) else {
         return Err("no memory".into());
     };
     assert!(rt; g.answer == Ok(1024));
@@ -168,7 +180,7 @@ fn a_bucket_is_split_once(rt: HostRuntime) -> Result<(), Fail> {
 
 #[test]
 fn the_half_of_the_hash_is_answered(rt: HostRuntime) -> Result<(), Fail> {
-    let Some(g) = grown(rt.alloc(), 6, 1 << 27, 9 << 27, u64::MAX) else {
+    let Some(g) = room_made(rt.alloc(), 6, 1 << 27, 9 << 27, u64::MAX) else {
         return Err("no memory".into());
     };
     assert!(rt; g.answer == Ok(2048));
@@ -178,7 +190,7 @@ fn the_half_of_the_hash_is_answered(rt: HostRuntime) -> Result<(), Fail> {
 
 #[test]
 fn splits_and_doublings_are_repeated(rt: HostRuntime) -> Result<(), Fail> {
-    let Some(g) = grown(rt.alloc(), 0, 1 << 25, 0, u64::MAX) else {
+    let Some(g) = room_made(rt.alloc(), 0, 1 << 25, 0, u64::MAX) else {
         return Err("no memory".into());
     };
     assert!(rt; g.answer == Ok(1024));
@@ -190,7 +202,7 @@ fn splits_and_doublings_are_repeated(rt: HostRuntime) -> Result<(), Fail> {
 #[test]
 fn each_call_of_the_vault_may_fail(rt: HostRuntime) -> Result<(), Fail> {
     for calls in 0..5u64 {
-        let Some(g) = grown(rt.alloc(), 6, 1 << 27, 0, calls) else {
+        let Some(g) = room_made(rt.alloc(), 6, 1 << 27, 0, calls) else {
             return Err("no memory".into());
         };
         assert!(rt; g.answer.is_ok() == (calls >= 4));

@@ -7,7 +7,7 @@ use Rattle.gd_format.specs.declared.Header.{Header}
 use Rattle.gd_verify.specs.declared.reading.Stopped.{Stopped}
 use Rattle.gd_verify.specs.declared.reading.Stopped.TheVariants.{Fault, NoMemory}
 use Rattle.gd_vault.specs.Content.{File, Content}
-use Rattle.gd_vault.specs.Views.{View, content_of, HasFile}
+use Rattle.gd_vault.specs.Views.{View, content_of, HasFile, OnlyAsks}
 use Rattle.gd_verify.specs.Asks.{Kept, kept_of, bytes_in, file_in, Tells, IsCause, error_of}
 use Rattle.gd_verify.proofs.Asks.{bytes_told}
 use Rattle.gd_verify.proofs.Refusals.{refuses_map}
@@ -89,3 +89,24 @@ pub none_at : {T : Type 0} (r : Result (Option T) DbError) (v : View) (f : ℕ) 
 none_at (Ok (Some t)) v f P h = tt
 none_at (Ok None) v f P h = told_at v f P h
 none_at (Err e) v f P h = tt
+
+-- ---- over calls that ask, for callers
+
+pub at_file_stays : (u v : View) (f : ℕ) (P : List ℕ → Type 0) → OnlyAsks u v → AtFile u f P → AtFile v f P
+at_file_stays u v f P a h c x told is = h c x (ap content_of (sym a.told) ∙ told) is
+
+pub at_file_was : (u v : View) (f : ℕ) (P : List ℕ → Type 0) → OnlyAsks u v → AtFile v f P → AtFile u f P
+at_file_was u v f P a h c x told is = h c x (ap content_of a.told ∙ told) is
+
+pub of_file_stays : (u v : View) (f : ℕ) (h : Header) → OnlyAsks u v → OfFile u f h → OfFile v f h
+of_file_stays u v f h a o = record { is_open = at_file_stays u v f (λ file. IsOpen file h) a o.is_open }
+
+pub has_file_stays : (u v : View) (f : ℕ) → OnlyAsks u v → HasFile u f → HasFile v f
+has_file_stays u v f a h c told = h c (ap content_of (sym a.told) ∙ told)
+
+pub refused_after : (e : DbError) (u v w : View) → OnlyAsks u v → RefusesRead e v w → RefusesRead e u w
+refused_after e u v w a r =
+    record {
+      kind = r.kind;
+      cause = refuses_map e _ _ _ _ (λ (h : min (v.faults + 1) (2 ^ 64 - 1) ≤ w.faults). let le = a.later in let goal : min (u.faults + 1) (2 ^ 64 - 1) ≤ w.faults = omega (arith, le, h) in goal) (λ h. ap content_of (sym a.told) ∙ h) r.cause;
+    }

@@ -63,6 +63,7 @@ pub fn bucket_at<V: Vault>(
     requires place { AtFile (V.view_of vault.old) f.0 (λ file. IsBucketPlace file header.now at) }
     ensures asks { OnlyAsks (V.view_of vault.old) (V.view_of vault.new) }
     ensures slots { IfOk result (λ b. length b.slots ≡ header.now.elems) }
+    ensures some { IfOk result (λ b. 0 < length b.slots) }
     ensures bucket { IfOk result (λ b. AtFile (V.view_of vault.old) f.0 (λ file. b ≡ spec.bucket_at (bytes_at file at header.now.block) header.now.elems)) }
     ensures block { IfOk result (λ _. AtFile (V.view_of vault.old) f.0 (λ file. buf.new ≡ bytes_at file at header.now.block)) }
     ensures refused { IfErr result (λ e. RefusesRead e (V.view_of vault.old) (V.view_of vault.new)) }

@@ -101,6 +101,7 @@ pub fn bucket_in<V: Vault>(
     ensures same { kept_of (V.view_of vault.new) ≡ kept_of (V.view_of vault.old) }
     ensures later { (V.view_of vault.old).faults ≤ (V.view_of vault.new).faults }
     ensures slots { IfOk result (λ b. length b.slots ≡ header.now.elems) }
+    ensures some { IfOk result (λ b. 0 < length b.slots) }
     ensures bucket { IfOk result (λ b. Tells (bytes_in (kept_of (V.view_of vault.old)) f.0) (λ file. b ≡ spec.bucket_at (bytes_at file at header.now.block) header.now.elems)) }
     ensures block { IfOk result (λ _. Tells (bytes_in (kept_of (V.view_of vault.old)) f.0) (λ file. buf.new ≡ bytes_at file at header.now.block)) }
     ensures refused { IfErr result (λ e. IsRefused e (kept_of (V.view_of vault.old)) f.0 (V.view_of vault.old).faults (V.view_of vault.new).faults) }

@@ -1,5 +1,5 @@
 -- The start of a row: a new file of block 512.
-use Rattle.std.proofs.Common.{◌≡◌, ℕ, ◌+◌, ◌-◌, ◌*◌, ◌^◌, ◌<◌, ◌≤◌, List, [], ◌∷◌, ◌++◌, length, Option, Some, None, refl, sym, ap, subst, ◌∙◌, inl, inr, arith}
+use Rattle.std.proofs.Common.{◌≡◌, ℕ, ◌*◌, ◌^◌, ◌<◌, ◌≤◌, List, [], ◌∷◌, length, Option, Some, None, refl, sym, ap, subst, ◌∙◌, inl, inr, arith}
 use Rattle.std.proofs.Math.Pow.{pow_mono}
 use Rattle.std.proofs.lemmas.Bool.{cases_lt}
 use Rattle.gd_base.specs.declared.errors.Format.{Format}
@@ -10,7 +10,7 @@ use Rattle.gd_format.specs.Avail.{Avail, avail_at}
 use Rattle.gd_format.specs.Bucket.{Bucket}
 use Rattle.gd_format.specs.Sound.{extent, most_of, table_of}
 use Rattle.gd_format.specs.Covers.{cover}
-use Rattle.gd_format.specs.FreeSide.{IsBelow, IsFreeSide, free_extents}
+use Rattle.gd_format.specs.FreeSide.{IsFreeSide, free_extents}
 use Rattle.gd_space.specs.Held.{HeldSpace}
 use Rattle.gd_space.specs.Calls.{free_lists}
 use Rattle.gd_space.specs.SpaceLaws.{IsApart}
@@ -21,12 +21,12 @@ use Rattle.gd_memvault.specs.Log.{told_of}
 use Rattle.gd_memvault.specs.LogData.{LogData}
 use Rattle.gd_memvault.specs.DiskData.{DiskData}
 use Rattle.gd_vault.specs.Content.{File, Content}
-use Rattle.gd_vault.specs.Views.{View, Told, HasFile, IsAt, content_of}
+use Rattle.gd_vault.specs.Views.{View, HasFile, IsAt, content_of}
 use Rattle.gd_create.specs.NewFile.{IsNewBlock, IsNewHeader, new_header, new_file}
 use Rattle.gd_create.specs.Stands.{Stands}
 use Rattle.gd_create.proofs.News.{is_new, length-new}
 use Rattle.gd_create.proofs.Powers.{is_header, fits}
-use Rattle.gd_rows.specs.Trial.{HasFree, FitsTrial}
+use Rattle.gd_rows.specs.Trial.{FitsTrial}
 
 -- a vault in memory tells its content
 pub tells : (m : MemState) → (c : Content) × (content_of (memory_told m) ≡ Some c)

@@ -1,5 +1,5 @@
 -- A take and a give keep what a row of them needs.
-use Rattle.std.proofs.Common.{◌≡◌, ℕ, ◌+◌, ◌-◌, ◌^◌, ◌<◌, ◌≤◌, List, [], ◌∷◌, ◌++◌, length, get_or, refl, sym, ap, subst, ◌∙◌, inl, inr, arith}
+use Rattle.std.proofs.Common.{◌≡◌, ℕ, ◌+◌, ◌-◌, ◌^◌, ◌<◌, ◌≤◌, List, [], ◌∷◌, ◌++◌, length, get_or, sym, ap, subst, ◌∙◌, inl, inr, arith}
 use Rattle.std.specs.List.{AllByRecursion, remove}
 use Rattle.std.proofs.lemmas.Bool.{cases_lt}
 use Rattle.std.proofs.lemmas.Bool.Decides.{nat_tests}
@@ -8,19 +8,19 @@ use Rattle.gd_format.specs.declared.Extent.{Extent}
 use Rattle.gd_format.specs.Headers.{IsHeader}
 use Rattle.gd_format.specs.Bucket.{Bucket}
 use Rattle.gd_format.specs.Sound.{extent}
-use Rattle.gd_format.specs.Covers.{has_byte, cover}
-use Rattle.gd_format.specs.FreeSide.{IsBelow, IsFreeSide, free_extents}
+use Rattle.gd_format.specs.Covers.{cover}
+use Rattle.gd_format.specs.FreeSide.{IsBelow, free_extents}
 use Rattle.gd_format.proofs.Covers.{cover-append, cover-remove, all-append}
 use Rattle.gd_layout.specs.Fits.{FitsHeader}
 use Rattle.gd_space.specs.Held.{HeldSpace}
-use Rattle.gd_space.specs.Effect.{Moves, CanBeGiven, grown}
+use Rattle.gd_space.specs.Effect.{CanBeGiven}
 use Rattle.gd_space.specs.Calls.{Done, Gave, free_lists}
 use Rattle.gd_space.specs.SpaceLaws.{IsApart}
-use Rattle.gd_space.proofs.Changes.{stays_apart, cover-one}
+use Rattle.gd_space.proofs.Changes.{stays_apart}
 use Rattle.gd_space.proofs.Elements.{all-at, all-remove}
 use Rattle.gd_space.proofs.Sides.{cover-in}
 use Rattle.gd_vault.specs.Views.{View}
-use Rattle.gd_rows.specs.Trial.{HasFree, FitsTrial}
+use Rattle.gd_rows.specs.Trial.{FitsTrial}
 
 -- ---- the header
 

@@ -2,7 +2,7 @@ use Rattle.std.proofs.Common.{◌≡◌, false, arith}
 use Rattle.gd_format.specs.Bucket.{is_bucket}
 use Rattle.gd_verify.proofs.Headers.{header_room}
 use Rattle.gd_lookup.proofs.Opens.{bad_bucket}
-use Rattle.gd_lookup.proofs.Blocks.{block_right, slots_length}
+use Rattle.gd_lookup.proofs.Blocks.{block_right, header_some, slots_length}
 use Rattle.gd_lookup.proofs.parts.bucket_in.Goals as goal
 
 pub read_bucket-requires : goal.read_bucket-requires
@@ -23,3 +23,9 @@ returns-in-Err-Bad-clause-refused g c =
     let read = c.in_ok-read_block.ensures.block file told in
     let bad : is_bucket c.read_block.new.buf c.args.header.now.elems ≡ false = rw c.in-Err-Bad.field-0-is at c.in-Err-Bad.ensures.bad in
     absurd (cc (right, read, bad)))
+
+pub returns-in-Ok-clause-some : goal.returns-in-Ok-clause-some
+returns-in-Ok-clause-some g c =
+    let some = header_some c.args.header.now c.requires.header in
+    let slots = slots_length c.read_block.new.buf c.args.header.now.elems c.in-Ok.bucket c.in-Ok.ensures.ok.0 in
+    omega (arith, some, slots)

@@ -1,4 +1,4 @@
-use Rattle.std.proofs.Common.{◌≡◌, refl, arith}
+use Rattle.std.proofs.Common.{refl, arith}
 use Rattle.gd_memvault.specs.Memory.{memory_view}
 use Rattle.gd_rows.proofs.Starts.{header_512, made_bytes}
 use Rattle.gd_rows.proofs.trial.new_file.Goals as goal

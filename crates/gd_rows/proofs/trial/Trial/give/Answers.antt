@@ -1,4 +1,4 @@
-use Rattle.std.proofs.Common.{[], ◌∷◌, ◌++◌, arith}
+use Rattle.std.proofs.Common.{arith}
 use Rattle.gd_memvault.specs.Memory.{memory_view}
 use Rattle.gd_rows.proofs.Trials.{gave_back}
 use Rattle.gd_rows.proofs.trial.Trial.give.Goals as goal

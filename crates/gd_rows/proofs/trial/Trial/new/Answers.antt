@@ -1,4 +1,4 @@
-use Rattle.std.proofs.Common.{◌≡◌, refl}
+use Rattle.std.proofs.Common.{refl}
 use Rattle.gd_base.specs.declared.errors.Format.TheVariants.{Standard}
 use Rattle.gd_memvault.specs.Memory.{memory_view}
 use Rattle.gd_create.proofs.Powers.{is_header}
