@@ -1,14 +1,14 @@
 -- Steps over a vault, one after another.
-use Rattle.std.proofs.Common.{◌≡◌, ℕ, ◌+◌, ◌≤◌, List, [], Some, refl, sym, ap, subst, ◌∙◌, arith}
+use Rattle.std.proofs.Common.{◌≡◌, ℕ, ◌+◌, List, Some, sym, ap, subst, ◌∙◌, arith}
 use Rattle.gd_format.specs.declared.Extent.{Extent}
 use Rattle.gd_format.specs.declared.Header.{Header}
-use Rattle.gd_format.specs.FreeSide.{StackBlock, free_extents}
+use Rattle.gd_format.specs.FreeSide.{StackBlock}
 use Rattle.gd_space.specs.Calls.{free_lists}
 use Rattle.gd_vault.specs.Content.{File, Content}
 use Rattle.gd_vault.specs.Views.{View, HasFile, content_of}
 use Rattle.gd_vault.specs.Frame.{Within}
 use Rattle.gd_split.specs.Held.{IsHeld, Holds}
-use Rattle.gd_split.specs.Steps.{IsStep, Steps, AfterStep}
+use Rattle.gd_split.specs.Steps.{IsStep, Steps}
 use Rattle.gd_change.proofs.Files.{told_before}
 
 same_content : {c d : Content} → Some c ≡ Some d → c ≡ d

@@ -1,31 +1,29 @@
 -- How a chain of splits begins, goes on and ends.
-use Rattle.std.proofs.Common.{◌≡◌, ℕ, ◌+◌, ◌-◌, ◌*◌, ◌^◌, ◌<◌, ◌≤◌, true, List, [], ◌++◌, length, refl, sym, ap, subst, ◌∙◌, arith}
-use Rattle.std.specs.Prelude.{ℤ, pos, ◌/◌}
-use Rattle.std.proofs.lemmas.Nat.{shr-shr, pow_pos}
+use Rattle.std.proofs.Common.{◌≡◌, ℕ, ◌+◌, ◌-◌, ◌*◌, ◌^◌, ◌<◌, ◌≤◌, List, [], length, refl, sym, ap, subst, ◌∙◌, arith}
+use Rattle.std.specs.Prelude.{ℤ, ◌/◌}
+use Rattle.std.proofs.lemmas.Nat.{shr-shr}
 use Rattle.gd_format.specs.declared.Header.{Header}
 use Rattle.gd_format.specs.Field.{bytes_at, i64_at, u64_at}
 use Rattle.gd_format.specs.HeaderFault.{natural, header_of}
 use Rattle.gd_format.specs.Avail.{Avail, avail_at}
 use Rattle.gd_format.specs.Bucket.{Bucket, bucket_at, slots_at}
-use Rattle.gd_format.specs.File.{front_of, bits_at, entry_at, entries_of, block_of, run_at, records}
+use Rattle.gd_format.specs.File.{front_of, bits_at, entry_at, entries_of, block_of, run_at}
 use Rattle.gd_format.specs.FreeSide.{FreeLists, StackBlock, free_extents}
 use Rattle.gd_format.specs.Slots.{count, is_full}
-use Rattle.gd_format.specs.Sound.{IsSound, extent, most_of, table_of, lost_total}
-use Rattle.gd_format.specs.Covers.{has_byte, cover}
+use Rattle.gd_format.specs.Sound.{IsSound, extent, most_of, table_of}
+use Rattle.gd_format.specs.Covers.{has_byte}
 use Rattle.gd_parts.specs.Parts.{file_header}
 use Rattle.gd_parts.specs.Frame.{written}
 use Rattle.gd_parts.proofs.Made.{bits_within}
 use Rattle.gd_laws.specs.Frame.{KeepsBut}
 use Rattle.gd_laws.specs.Lookup.{value_at}
-use Rattle.gd_laws.specs.Maps.{pair_map}
 use Rattle.gd_laws.specs.Overflow.{is_close}
-use Rattle.gd_laws.specs.Slots.{AreSlotsRight, is_bad}
-use Rattle.gd_laws.specs.Space.{one_if, bucket_cover, all_cover}
+use Rattle.gd_laws.specs.Space.{one_if, all_cover}
 use Rattle.gd_laws.proofs.Overflow.{full_has_bits}
 use Rattle.gd_laws.proofs.Slots.{of_bucket}
 use Rattle.gd_laws.proofs.Stays.{has_in, bucket_in_all, block_counts, within_ends, write_keeps}
 use Rattle.gd_space.specs.Calls.{free_lists}
-use Rattle.gd_split.specs.Held.{IsHeld, IsBucketOf, index_at, lost_in}
+use Rattle.gd_split.specs.Held.{IsHeld, IsBucketOf, index_at}
 use Rattle.gd_split.specs.Steps.{IsStep}
 use Rattle.gd_split.proofs.Ends.{same_lookups}
 use Rattle.gd_split.proofs.Settled.{sound_is_held}

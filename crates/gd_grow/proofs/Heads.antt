@@ -1,15 +1,15 @@
 -- Headers over the rounds of a chain, and what is written.
-use Rattle.std.proofs.Common.{◌≡◌, ℕ, ◌+◌, ◌-◌, ◌*◌, ◌^◌, ◌<◌, ◌≤◌, refl, sym, ap, subst, ◌∙◌, arith}
+use Rattle.std.proofs.Common.{◌≡◌, ℕ, ◌+◌, ◌-◌, ◌*◌, ◌^◌, ◌<◌, ◌≤◌, refl, sym, ap, ◌∙◌, arith}
 use Rattle.std.proofs.lemmas.Nat.{pow_pos, pow-add}
 use Rattle.std.proofs.Math.Nat.{pow-le-pow_right}
 use Rattle.gd_format.specs.declared.Header.{Header}
 use Rattle.gd_format.specs.Headers.{IsHeader}
-use Rattle.gd_format.specs.HeaderFault.{dir_size_of, table_room}
+use Rattle.gd_format.specs.HeaderFault.{dir_size_of}
 use Rattle.gd_space.specs.Effect.{WritesAtMost}
 use Rattle.gd_space.proofs.Fits.{bounds}
 use Rattle.gd_vault.specs.Views.{View}
 use Rattle.gd_split.specs.SplitLaws.{half_of, doubled}
-use Rattle.gd_grow.specs.Growth.{IsWider, IsWide, IsDivided, DivisionWrites, run_size}
+use Rattle.gd_grow.specs.Growth.{IsWider, IsWide, DivisionWrites}
 
 -- another end of space
 pub header_grown : (h : Header) (n : ℕ) → IsHeader h → n ≤ 2 ^ 46 → IsHeader (record h { next_block = n })

@@ -1,5 +1,5 @@
 -- How far a chain of splits has come.
-use Rattle.std.proofs.Common.{◌≡◌, ◌≢◌, ℕ, ◌+◌, ◌-◌, ◌*◌, ◌^◌, ◌<◌, ◌≤◌, max, List, [], length, Some, None, refl, sym, ap, subst, ◌∙◌, arith}
+use Rattle.std.proofs.Common.{◌≡◌, ℕ, ◌+◌, ◌-◌, ◌*◌, ◌^◌, ◌<◌, ◌≤◌, max, List, [], length, Some, None, refl, sym, ap, subst, ◌∙◌, arith}
 use Rattle.std.proofs.lemmas.Nat.{mul-le}
 use Rattle.std.proofs.Math.Nat.{pow-le-pow_right}
 use Rattle.gd_format.specs.declared.Header.{Header}
@@ -17,9 +17,9 @@ use Rattle.gd_vault.specs.Content.{File, Content}
 use Rattle.gd_vault.specs.Views.{View, HasFile, IsAt, content_of}
 use Rattle.gd_vault.specs.Frame.{Within, OneFile, NoName}
 use Rattle.gd_vault.proofs.Within.{within_refl, within_trans}
-use Rattle.gd_split.specs.Held.{IsHeld, Holds, IsBucketOf, HasBucket}
+use Rattle.gd_split.specs.Held.{Holds, IsBucketOf, HasBucket}
 use Rattle.gd_split.specs.Steps.{Steps}
-use Rattle.gd_split.specs.Turns.{Turns, Turned}
+use Rattle.gd_split.specs.Turns.{Turns}
 use Rattle.gd_change.specs.Open.{IsOpen}
 use Rattle.gd_change.proofs.Files.{told_before}
 use Rattle.gd_grow.specs.Growth.{IsGrown, IsWider, IsDivided, DivisionWrites, run_size}

@@ -1,5 +1,5 @@
 -- How a chain of splits begins, when it goes on, and how it ends, over the bytes of a file.
-use Rattle.std.specs.Prelude.{◌≡◌, ℕ, ◌^◌, ◌<◌, ◌≤◌, List, []}
+use Rattle.std.specs.Prelude.{◌≡◌, ℕ, ◌^◌, ◌<◌, ◌≤◌, List}
 use Rattle.gd_format.specs.declared.Header.{Header}
 use Rattle.gd_format.specs.Avail.{Avail}
 use Rattle.gd_format.specs.Bucket.{Bucket}

@@ -1,7 +1,7 @@
 -- What may be answered in the place of room.
 use Rattle.std.specs.Prelude.{Bool, true, false}
 use Rattle.gd_base.specs.declared.errors.DbError.{DbError}
-use Rattle.gd_base.specs.declared.errors.DbError.TheVariants.{Absent, BlockSize, ShortFile, BadMagic, ByteSwapped, WrongOffset, BadHeader, BadDirEntry, BadBucket, BadHashTable, BadHashEntry, BadAvail, NeedRecovery, ReaderCant, ItemNotFound, CannotReplace, DirOverflow, TooLarge, FileFull, Exists, InUse, NotNumsync, AlreadyAtomic, SameName, InEpoch, NotOpen, VaultFault, ClockFault, OutOfMemory, ClockStood}
+use Rattle.gd_base.specs.declared.errors.DbError.TheVariants.{BadDirEntry, BadBucket, BadAvail, VaultFault}
 
 -- a fault of the vault, free space, an entry of the directory or a bucket that is none
 abbrev pub is_growth_error : DbError → Bool

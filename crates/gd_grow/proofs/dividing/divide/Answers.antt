@@ -1,8 +1,7 @@
-use Rattle.std.proofs.Common.{◌≡◌, ◌+◌, ◌-◌, ◌*◌, ◌<◌, ◌≤◌, ◌^◌, List, [], refl, sym, ap, subst, ◌∙◌, arith}
+use Rattle.std.proofs.Common.{List, [], sym, ap, subst, arith}
 use Rattle.gd_format.specs.declared.Extent.{Extent}
 use Rattle.gd_format.specs.declared.Header.{Header}
 use Rattle.gd_format.specs.Headers.{IsHeader}
-use Rattle.gd_split.specs.Held.{Holds}
 use Rattle.gd_split.specs.Steps.{Steps, IsNext, KeepsBuckets}
 use Rattle.gd_grow.proofs.Chains.{came, holds_after, steps_then}
 use Rattle.gd_grow.proofs.Heads.{header_grown, division_writes, division_amount}

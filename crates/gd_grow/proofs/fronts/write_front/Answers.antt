@@ -1,6 +1,6 @@
-use Rattle.std.proofs.Common.{◌≡◌, ◌≤◌, List, ℕ, length, refl, sym, ap, subst, ◌∙◌}
+use Rattle.std.proofs.Common.{◌≡◌, List, ℕ, length, refl, sym, subst, ◌∙◌}
 use Rattle.gd_space.proofs.Fits.{bounds}
-use Rattle.gd_split.proofs.Files.{there_after, turns_write}
+use Rattle.gd_split.proofs.Files.{turns_write}
 use Rattle.gd_split.proofs.Settled.{settled}
 use Rattle.gd_grow.specs.Growth.{IsClosed}
 use Rattle.gd_grow.proofs.fronts.write_front.Goals as goal

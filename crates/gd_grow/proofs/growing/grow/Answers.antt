@@ -1,6 +1,4 @@
-use Rattle.std.proofs.Common.{◌≡◌, ◌≢◌, ◌+◌, ◌*◌, ◌<◌, ◌≤◌, ◌^◌, refl, sym, ap, subst, arith}
-use Rattle.gd_format.specs.declared.Header.{Header}
-use Rattle.gd_format.specs.HeaderFault.{dir_size_of}
+use Rattle.std.proofs.Common.{refl, arith}
 use Rattle.gd_grow.proofs.Ways.{way_begins, way_goes_on, growth_most, has_room, has_wide, holds_now, bucket_now, wrote_most, wrote_failing}
 use Rattle.gd_grow.proofs.growing.grow.Goals as goal
 

@@ -1,4 +1,4 @@
-use Rattle.std.proofs.Common.{◌≡◌, ◌+◌, ◌≤◌, refl, sym, ap, ◌∙◌}
+use Rattle.std.proofs.Common.{sym, ap, ◌∙◌}
 use Rattle.gd_format.specs.declared.Header.{Header}
 use Rattle.gd_format.specs.Sound.{most_of}
 use Rattle.gd_grow.proofs.Heads.{bound_of}

@@ -1,4 +1,4 @@
-use Rattle.std.proofs.Common.{◌≡◌, ◌≤◌, refl, sym, ap}
+use Rattle.std.proofs.Common.{refl, ap}
 use Rattle.gd_format.specs.Bucket.{Bucket}
 use Rattle.gd_laws.specs.Overflow.{is_close}
 use Rattle.gd_grow.proofs.NextBits.{first_fewer, second_fewer}

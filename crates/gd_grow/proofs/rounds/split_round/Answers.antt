@@ -1,4 +1,4 @@
-use Rattle.std.proofs.Common.{◌≡◌, ◌≢◌, ◌+◌, ◌<◌, ◌≤◌, List, [], refl, sym, ap, subst, ◌∙◌, arith}
+use Rattle.std.proofs.Common.{[], arith}
 use Rattle.gd_space.proofs.Dones.{tells_none}
 use Rattle.gd_split.specs.Held.{IsBucketOf}
 use Rattle.gd_split.specs.Steps.{IsNext}

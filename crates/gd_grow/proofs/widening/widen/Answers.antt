@@ -1,4 +1,3 @@
-use Rattle.std.proofs.Common.{refl}
 use Rattle.gd_grow.proofs.Heads.{wide_same, wide_doubled}
 use Rattle.gd_grow.proofs.widening.widen.Goals as goal
 

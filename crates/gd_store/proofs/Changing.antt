@@ -1,0 +1,288 @@
+-- Facts of calls that change.
+use Rattle.std.proofs.Common.{◌≡◌, ◌≢◌, ℕ, zero, suc, ◌+◌, ◌^◌, ◌<◌, ◌≤◌, Bool, true, false, ◌||◌, List, length, get_or, Option, Some, None, refl, sym, ap, subst, ◌∙◌, arith}
+use Rattle.std.specs.Prelude.{is_some, Result, Ok, Err, IfErr, OnOk}
+use Rattle.std.specs.FinMap.{remove}
+use Rattle.std.proofs.lemmas.Slice.Eq.{bytes_eq-Decides}
+use Rattle.gd_base.specs.Causes.{Rose}
+use Rattle.gd_base.specs.declared.errors.DbError.{DbError}
+use Rattle.gd_base.specs.declared.errors.DbError.TheVariants.{Absent, BlockSize, ShortFile, BadMagic, ByteSwapped, WrongOffset, BadHeader, BadDirEntry, BadBucket, BadHashTable, BadHashEntry, BadAvail, NeedRecovery, ReaderCant, ItemNotFound, CannotReplace, DirOverflow, TooLarge, FileFull, Exists, InUse, NotNumsync, AlreadyAtomic, SameName, InEpoch, NotOpen, VaultFault, ClockFault, OutOfMemory, ClockStood}
+use Rattle.gd_format.specs.declared.Header.{Header}
+use Rattle.gd_format.specs.declared.Slot.{Slot}
+use Rattle.gd_format.specs.declared.Slot.TheVariants.{Empty, Full}
+use Rattle.gd_format.specs.Bucket.{Bucket}
+use Rattle.gd_format.specs.Field.{bytes_at}
+use Rattle.gd_format.specs.File.{records}
+use Rattle.gd_format.specs.Headers.{IsHeader}
+use Rattle.gd_format.proofs.Pieces.{length-bytes_at}
+use Rattle.gd_layout.specs.Fits.{FitsHeader}
+use Rattle.gd_parts.proofs.Lists.{bool_cases}
+use Rattle.gd_laws.specs.Find.{is_slot_of}
+use Rattle.gd_laws.specs.Maps.{PairMap, pair_map}
+use Rattle.gd_lookup.specs.Finding.{IsKeySlot, IsKeyAbsent}
+use Rattle.gd_lookup.specs.Reading.{is_of_read, LiesIn, RefusesRead, value_in}
+use Rattle.gd_vault.specs.Content.{File, Content}
+use Rattle.gd_vault.specs.Frame.{Within}
+use Rattle.gd_vault.specs.Views.{View, HasFile, IsAt, OnlyAsks, content_of}
+use Rattle.gd_verify.proofs.Refusals.{refuses_map}
+use Rattle.gd_change.specs.Calls.{CanChange, Changes, Goes}
+use Rattle.gd_change.specs.KeepSound.{IsNext}
+use Rattle.gd_change.specs.Open.{IsHere, slot_key, slot_size}
+use Rattle.gd_change.specs.Open as change
+use Rattle.gd_change.proofs.Files as files
+use Rattle.gd_split.proofs.Chains.{one_file}
+use Rattle.gd_store.specs.declared.access.Access.{Access}
+use Rattle.gd_store.specs.declared.access.Access.TheVariants.{Writer}
+use Rattle.gd_store.specs.Changed.{IsChanged, Becomes}
+use Rattle.gd_store.specs.Located.{IsFoundIn}
+use Rattle.gd_store.specs.Opened.{Opened, IsOpenOn, IsRightFor, Fits, OnFile}
+use Rattle.gd_store.specs.Replies.{delete_due, far_due, is_fault, is_fault_of, is_too_far, is_not_found, is_of_asking, is_of_change, pair_size, value_of, RefusedChanging}
+
+-- ---- the slot of a key
+
+pub slot_key_is : (file key : List ℕ) (slot : Slot) → is_slot_of file key slot ≡ true → slot_key file slot ≡ key
+slot_key_is file key Empty own = absurd cc
+slot_key_is file key (Full hash start at k v) own = (bytes_eq-Decides (bytes_at file at k) key).0 own
+
+piece_size : (file : List ℕ) (at n : ℕ) → (0 < n → at + n ≤ length file) → length (bytes_at file at n) ≡ n
+piece_size file at zero inside = refl
+piece_size file at (suc n) inside = length-bytes_at file at (suc n) (inside (omega arith))
+
+full_size : (file key : List ℕ) (slot : Slot) → is_slot_of file key slot ≡ true → LiesIn (length file) slot → length key + length (value_in file slot) ≡ slot_size slot
+full_size file key Empty own inside = absurd cc
+full_size file key (Full hash start at k v) own inside =
+    let is : bytes_at file at k ≡ key = (bytes_eq-Decides (bytes_at file at k) key).0 own in
+    let a = piece_size file at k (λ some. let i = inside (omega (arith, some)) in omega (arith, i)) in
+    let b = piece_size file (at + k) v (λ some. let i = inside (omega (arith, some)) in omega (arith, i)) in
+    let e : length key ≡ length (bytes_at file at k) = ap length (sym is) in
+    omega (arith, a, b, e)
+
+-- the size of the pair of a key that has a slot
+pub pair_has : (file key : List ℕ) (slot : Slot) → IsKeySlot file key slot → pair_size key (value_of (records file) key) ≡ slot_size slot
+pair_has file key slot is = ap (pair_size key) is.value ∙ full_size file key slot is.own is.inside
+
+-- what is due of a deletion where the key has a slot
+pub present_due : (file key : List ℕ) (slot : Slot) (next : ℕ) → IsKeySlot file key slot → delete_due (records file) next key ≡ far_due next (slot_size slot)
+present_due file key slot next is =
+    let some : is_some (value_of (records file) key) ≡ true = ap is_some is.value in
+    rw some (ap (far_due next) (pair_has file key slot is))
+
+pub absent_due : (file key : List ℕ) (slots : List Slot) (next : ℕ) → IsKeyAbsent file key slots → delete_due (records file) next key ≡ Some ItemNotFound
+absent_due file key slots next is = let none : is_some (value_of (records file) key) ≡ false = ap is_some is.value in rw none refl
+
+pub near_due : (next size : ℕ) → is_too_far next size ≡ false → far_due next size ≡ None
+near_due next size e = rw e refl
+
+pub too_far_due : (next size : ℕ) → is_too_far next size ≡ true → far_due next size ≡ Some FileFull
+too_far_due next size e = rw e refl
+
+-- ---- an open file
+
+pub may_change : (s : Opened) (file : List ℕ) → IsOpenOn s file → s.access ≡ Writer → change.IsOpen file s.header s.table
+may_change s file o writer =
+    let r = subst (λ (a : Access). IsRightFor a s.header s.table file) writer o.right in
+    record { sound = r.0; header_is = o.header; table_is = r.1 }
+
+pub is_here : (file : List ℕ) (h : Header) (key : List ℕ) (at : ℕ) (bucket : Bucket) (p : Option ℕ) → IsFoundIn file h key at bucket p → IsHere file h at bucket key
+is_here file h key at bucket p found = record { place_is = found.address; bucket_is = found.bucket }
+
+pub told_before : (u v : View) (c : Content) → OnlyAsks u v → content_of v.told ≡ Some c → content_of u.told ≡ Some c
+told_before u v c asks told = ap content_of (sym asks.told) ∙ told
+
+pub still_there : (u v : View) (f : ℕ) → OnlyAsks u v → HasFile u f → HasFile v f
+still_there u v f asks there = λ c told. there c (told_before u v c asks told)
+
+pub found_at : (v : View) (f : ℕ) (h : Header) (key : List ℕ) (at : ℕ) (bucket : Bucket) (p q : Option ℕ) → p ≡ q → OnFile v f (λ file. IsFoundIn file h key at bucket p) → OnFile v f (λ file. IsFoundIn file h key at bucket q)
+found_at v f h key at bucket p q same found = λ c x told there. subst (λ (r : Option ℕ). IsFoundIn x.bytes h key at bucket r) same (found c x told there)
+
+pub has_file_as : (v : View) (s t : Opened) → t ≡ s → HasFile v s.file → HasFile v t.file
+has_file_as v s t same has = subst (λ (o : Opened). HasFile v o.file) (sym same) has
+
+-- the slot of a key that was found may be removed
+can_remove : (u v : View) (s : Opened) (key : List ℕ) (at : ℕ) (bucket : Bucket) (p : ℕ) → Fits u s → s.broken ≡ false → s.access ≡ Writer → OnlyAsks u v
+    → OnFile u s.file (λ file. IsFoundIn file s.header key at bucket (Some p))
+    → CanChange v s.file s.header s.table at bucket (λ x. slot_key x (get_or bucket.slots p Empty))
+can_remove u v s key at bucket p fits whole writer asks found = λ c x told there.
+    let before = told_before u v c asks told in
+    let f = found c x before there in
+    let same : slot_key x.bytes (get_or bucket.slots p Empty) ≡ key = slot_key_is x.bytes key (get_or bucket.slots p Empty) f.place.own in
+    (may_change s x.bytes (fits whole c x before there) writer, subst (λ (k : List ℕ). IsHere x.bytes s.header at bucket k) (sym same) (is_here x.bytes s.header key at bucket (Some p) f))
+
+pub may_remove : (u v : View) (s t : Opened) (key : List ℕ) (at : ℕ) (bucket : Bucket) (q : Option ℕ) (p : ℕ) → t ≡ s → q ≡ Some p → Fits u s → s.broken ≡ false → s.access ≡ Writer → OnlyAsks u v
+    → OnFile u s.file (λ file. IsFoundIn file s.header key at bucket q)
+    → CanChange v t.file t.header t.table at bucket (λ x. slot_key x (get_or bucket.slots p Empty))
+may_remove u v s t key at bucket q p same is fits whole writer asks found =
+    subst (λ (o : Opened). CanChange v o.file o.header o.table at bucket (λ x. slot_key x (get_or bucket.slots p Empty))) (sym same)
+    (can_remove u v s key at bucket p fits whole writer asks (found_at u s.file s.header key at bucket q (Some p) is found))
+
+-- the next file is the database's
+pub changed : (s' : Opened) (old new : List ℕ) (at : ℕ) (bucket' : Bucket) (key : List ℕ) (map : PairMap) (more : ℕ) → s'.access ≡ Writer → IsNext old new s'.header s'.table at bucket' key map more → IsChanged s' map more old new
+changed s' old new at bucket' key map more writer next = record {
+  is_open = record {
+    header = next.still_open.header_is;
+    right = subst (λ (a : Access). IsRightFor a s'.header s'.table new) (sym writer) (next.still_open.sound, next.still_open.table_is);
+  };
+  map_is = next.map_is;
+  lost = next.lost;
+}
+
+pub removed : (u v w : View) (s s' t : Opened) (key : List ℕ) (at : ℕ) (bucket bucket' : Bucket) (q : Option ℕ) (p : ℕ) → t ≡ s → q ≡ Some p → OnlyAsks u v → s'.access ≡ t.access → s.access ≡ Writer
+    → OnFile u s.file (λ file. IsFoundIn file s.header key at bucket q)
+    → Changes v w t.file s'.header s'.table at bucket' (λ x. slot_key x (get_or bucket.slots p Empty)) (λ x. remove (pair_map (records x)) (slot_key x (get_or bucket.slots p Empty))) 32
+    → Becomes u w s.file s' (λ file. remove (pair_map (records file)) key) (λ _. 32)
+removed u v w s s' t key at bucket bucket' q p same_store is asks access writer found changes = λ c x told there.
+    let now : content_of v.told ≡ Some c = ap content_of asks.told ∙ told in
+    let f = found_at u s.file s.header key at bucket q (Some p) is found c x told there in
+    let same : slot_key x.bytes (get_or bucket.slots p Empty) ≡ key = slot_key_is x.bytes key (get_or bucket.slots p Empty) f.place.own in
+    let file_is : t.file ≡ s.file = ap (λ (o : Opened). o.file) same_store in
+    let n = changes c x now (ap c.files file_is ∙ there) in
+    let mine : s'.access ≡ Writer = access ∙ ap (λ (o : Opened). o.access) same_store ∙ writer in
+    record {
+      content = n.content;
+      file = n.file;
+      told = n.told;
+      there = ap n.content.files (sym file_is) ∙ n.there;
+      is = changed s' x.bytes n.file.bytes at bucket' key (remove (pair_map (records x.bytes)) key) 32 mine
+          (subst (λ (k : List ℕ). IsNext x.bytes n.file.bytes s'.header s'.table at bucket' k (remove (pair_map (records x.bytes)) k) 32) same n.is);
+    }
+
+-- ---- what is there afterwards
+
+-- what was made is there at the next call
+pub goes_there : {mine : ℕ → Type 0} {named : List ℕ → Type 0} (u v : View) (f : ℕ) (R : List ℕ → List ℕ → Type 0) → Within mine named u v → HasFile u f → Goes u v f R
+    → (d : Content) (y : File) → content_of v.told ≡ Some d → d.files f ≡ Some y → (x : List ℕ) × R x y.bytes
+goes_there u v f R frame has goes d y told there =
+    let old = files.told_before u v d frame told in
+    let x = has old.0 old.1 in
+    let n = goes old.0 x.0 old.1 x.1 in
+    let same : n.file ≡ y = one_file v f n.content d n.file y n.told n.there told there in
+    (x.0.bytes, subst (λ (z : File). R x.0.bytes z.bytes) same n.is)
+
+-- whether it is broken says nothing of the file
+open_as : (s : Opened) (b : Bool) (file : List ℕ) → IsOpenOn s file → IsOpenOn (record s { broken = b }) file
+open_as s b file o = record { header = o.header; right = o.right }
+
+pub becomes_as : (u w : View) (f : ℕ) (s t : Opened) (b : Bool) (map : List ℕ → PairMap) (more : List ℕ → ℕ) → t ≡ s → Becomes u w f s map more → Becomes u w f (record t { broken = b }) map more
+becomes_as u w f s t b map more same becomes = λ c x told there.
+    let n = becomes c x told there in
+    record {
+      content = n.content;
+      file = n.file;
+      told = n.told;
+      there = n.there;
+      is = subst (λ (o : Opened). IsChanged (record o { broken = b }) (map x.bytes) (more x.bytes) x.bytes n.file.bytes) (sym same) (record { is_open = open_as s b n.file.bytes n.is.is_open; map_is = n.is.map_is; lost = n.is.lost });
+    }
+
+not_fault : (e : DbError) → is_fault_of e ≡ false → e ≢ VaultFault
+not_fault e calm same = let loud : is_fault_of e ≡ true = rw same refl in absurd (cc (loud, calm))
+
+fits_now : {T : Type 0} {mine : ℕ → Type 0} {named : List ℕ → Type 0} (r : Result T DbError) (u w : View) (s s1 : Opened) (map : List ℕ → PairMap) (more : List ℕ → ℕ)
+    → Within mine named u w → HasFile u s.file → Fits u s → s.broken ≡ false → is_fault r ≡ false → OnOk r (Becomes u w s.file s1 map more) → IfErr r (λ e. e ≢ VaultFault → IsAt u (λ _. (s1 ≡ s) × OnlyAsks u w))
+    → OnFile w s.file (IsOpenOn s1)
+fits_now (Ok t) u w s s1 map more frame has fits whole calm becomes kept = λ d y told there. (goes_there u w s.file (λ x z. IsChanged s1 (map x) (more x) x z) frame has becomes d y told there).1.is_open
+fits_now (Err e) u w s s1 map more frame has fits whole calm becomes kept = λ d y told there.
+    let old = files.told_before u w d frame told in
+    let k = kept (not_fault e calm) old.0 old.1 in
+    subst (λ (o : Opened). IsOpenOn o y.bytes) (sym k.0) (fits whole d y (told_before u w d k.1 told) there)
+
+-- an answer that is no fault leaves a database that is that of its file
+pub fits_after : {T : Type 0} {mine : ℕ → Type 0} {named : List ℕ → Type 0} (r : Result T DbError) (u w : View) (s s1 t : Opened) (b : Bool) (map : List ℕ → PairMap) (more : List ℕ → ℕ)
+    → Within mine named u w → HasFile u s.file → Fits u s → s.broken ≡ false → is_fault r ≡ false → OnOk r (Becomes u w s.file s1 map more) → IfErr r (λ e. e ≢ VaultFault → IsAt u (λ _. (s1 ≡ s) × OnlyAsks u w))
+    → s1.file ≡ s.file → t ≡ s1 → OnFile w t.file (IsOpenOn (record t { broken = b }))
+fits_after r u w s s1 t b map more frame has fits whole calm becomes kept same_file same = λ d y told there.
+    let file_is : t.file ≡ s.file = ap (λ (o : Opened). o.file) same ∙ same_file in
+    subst (λ (o : Opened). IsOpenOn (record o { broken = b }) y.bytes) (sym same) (open_as s1 b y.bytes (fits_now r u w s s1 map more frame has fits whole calm becomes kept d y told (ap d.files (sym file_is) ∙ there)))
+
+fault_is : (e : DbError) → is_fault_of e ≡ true → e ≡ VaultFault
+fault_is Absent h = absurd cc
+fault_is BlockSize h = absurd cc
+fault_is ShortFile h = absurd cc
+fault_is BadMagic h = absurd cc
+fault_is ByteSwapped h = absurd cc
+fault_is WrongOffset h = absurd cc
+fault_is BadHeader h = absurd cc
+fault_is (BadDirEntry i) h = absurd cc
+fault_is (BadBucket a) h = absurd cc
+fault_is (BadHashTable a) h = absurd cc
+fault_is (BadHashEntry a s) h = absurd cc
+fault_is (BadAvail a) h = absurd cc
+fault_is NeedRecovery h = absurd cc
+fault_is ReaderCant h = absurd cc
+fault_is ItemNotFound h = absurd cc
+fault_is CannotReplace h = absurd cc
+fault_is DirOverflow h = absurd cc
+fault_is TooLarge h = absurd cc
+fault_is FileFull h = absurd cc
+fault_is (Exists w) h = absurd cc
+fault_is InUse h = absurd cc
+fault_is NotNumsync h = absurd cc
+fault_is AlreadyAtomic h = absurd cc
+fault_is SameName h = absurd cc
+fault_is InEpoch h = absurd cc
+fault_is NotOpen h = absurd cc
+fault_is VaultFault h = refl
+fault_is ClockFault h = absurd cc
+fault_is OutOfMemory h = absurd cc
+fault_is (ClockStood o n) h = absurd cc
+
+-- a refused call leaves the database as it was, and not broken
+pub kept_as : {T : Type 0} (r : Result T DbError) (u w : View) (s s1 t : Opened) (b : Bool) → t ≡ s1 → b ≡ is_fault r → s.broken ≡ false
+    → IfErr r (λ e. e ≢ VaultFault → IsAt u (λ _. (s1 ≡ s) × OnlyAsks u w)) → IfErr r (λ e. e ≢ VaultFault → IsAt u (λ _. (record t { broken = b } ≡ s) × OnlyAsks u w))
+kept_as (Ok t) u w s s1 o b same is whole kept = tt
+kept_as (Err e) u w s s1 o b same is whole kept = λ other k told.
+    let h = kept other k told in
+    let calm : is_fault_of e ≡ false = bool_cases (is_fault_of e) (λ t. absurd (other (fault_is e t))) (λ f. f) in
+    let now : b ≡ s.broken = is ∙ calm ∙ sym whole in
+    (ap (λ (x : Opened). record x { broken = b }) (same ∙ h.0) ∙ ap (λ (y : Bool). record s { broken = y }) now, h.1)
+
+pub there_after : {mine : ℕ → Type 0} {named : List ℕ → Type 0} (u w : View) (f g : ℕ) → Within mine named u w → HasFile u f → g ≡ f → HasFile w g
+there_after u w f g frame has same = subst (λ (k : ℕ). HasFile w k) (sym same) (files.still_there u w f frame has)
+
+-- ---- answers
+
+pub if_err_map : {T : Type 0} (r : Result T DbError) (P Q : DbError → Type 0) → ((e : DbError) → P e → Q e) → IfErr r P → IfErr r Q
+if_err_map (Ok t) P Q f a = tt
+if_err_map (Err e) P Q f a = f e a
+
+pub on_ok_map : {T E : Type 0} (r : Result T E) (A B : Type 0) → (A → B) → OnOk r A → OnOk r B
+on_ok_map (Ok t) A B f a = f a
+on_ok_map (Err e) A B f a = tt
+
+pub on_ok_always : {T E : Type 0} (r : Result T E) (A : Type 0) → A → OnOk r A
+on_ok_always (Ok t) A a = a
+on_ok_always (Err e) A a = tt
+
+-- what is due of a deletion, where the content is told
+pub absent_told : (v : View) (f : ℕ) (h : Header) (key : List ℕ) (at : ℕ) (bucket : Bucket) (q : Option ℕ) (next : ℕ) → q ≡ None → OnFile v f (λ file. IsFoundIn file h key at bucket q) → OnFile v f (λ file. delete_due (records file) next key ≡ Some ItemNotFound)
+absent_told v f h key at bucket q next is found = λ c x told there. absent_due x.bytes key bucket.slots next (found_at v f h key at bucket q None is found c x told there).place
+
+pub present_told : (v : View) (f : ℕ) (h : Header) (key : List ℕ) (at : ℕ) (bucket : Bucket) (q : Option ℕ) (p next : ℕ) → q ≡ Some p → OnFile v f (λ file. IsFoundIn file h key at bucket q)
+    → OnFile v f (λ file. delete_due (records file) next key ≡ far_due next (slot_size (get_or bucket.slots p Empty)))
+present_told v f h key at bucket q p next is found = λ c x told there. present_due x.bytes key (get_or bucket.slots p Empty) next (found_at v f h key at bucket q (Some p) is found c x told there).place
+
+-- ---- the header
+
+pub grown_header : (h h' : Header) → IsHeader h → h' ≡ record h { next_block = h'.next_block } → h'.next_block ≤ 2 ^ 46 → IsHeader h'
+grown_header h h' is same le =
+    let grown : IsHeader (record h { next_block = h'.next_block }) = record { block = is.block; bits = is.bits; dir = is.dir; elems = is.elems; next_block = le; least = is.least; most = is.most } in
+    subst (λ (k : Header). IsHeader k) (sym same) grown
+
+pub grown_fields : (h h' : Header) → FitsHeader h → h' ≡ record h { next_block = h'.next_block } → h'.next_block ≤ 2 ^ 46 → FitsHeader h'
+grown_fields h h' is same le =
+    let grown : FitsHeader (record h { next_block = h'.next_block }) = record { format = is.format; block = is.block; dir = is.dir; bits = is.bits; elems = is.elems; next_block = omega (arith, le); avail_size = is.avail_size; words = is.words } in
+    subst (λ (k : Header). FitsHeader k) (sym same) grown
+
+-- ---- refusals
+
+or_left : (a b : Bool) → a ≡ true → (a || b) ≡ true
+or_left true b h = refl
+or_left false b h = absurd cc
+
+-- why a read was refused is why a change was
+pub read_refused : (e : DbError) (f : ℕ) (u v : View) (due : List ℕ → Option DbError) → RefusesRead e u v → RefusedChanging e f u v due
+read_refused e f u v due r = record {
+  kind = or_left (is_of_asking e) (is_of_change e) (or_left (is_of_read e) (is_not_found e) r.kind);
+  cause = refuses_map e (Rose u.faults v.faults) (content_of u.told ≡ None) (Rose u.faults v.faults) (OnFile u f (λ file. due file ≡ Some e)) (λ h. h) (λ none c x told there. absurd cc) r.cause;
+}
+
+pub fault_refused : (e : DbError) (f : ℕ) (u v : View) (due : List ℕ → Option DbError) → e ≡ VaultFault → Rose u.faults v.faults → RefusedChanging e f u v due
+fault_refused e f u v due is rose = rw is (record { kind = refl; cause = rose })

@@ -1,0 +1,7 @@
+pub mod Asking
+pub mod Changing
+pub mod Frames
+pub mod Lookups
+pub mod News
+pub mod OpenFacts
+pub mod Rooms

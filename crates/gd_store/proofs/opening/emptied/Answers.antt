@@ -1,0 +1,23 @@
+use Rattle.std.proofs.Common.{◌≡◌, inl, inr, refl, sym, ap, ◌∙◌, Some, None, Err}
+use Rattle.gd_store.proofs.Frames.{truncated, within_made, exists_untold, create_failed}
+use Rattle.gd_store.proofs.opening.emptied.Goals as goal
+
+pub returns-in-Ok-clause-frame : goal.returns-in-Ok-clause-frame
+returns-in-Ok-clause-frame g c =
+    truncated _ c.truncate.result (g.V.Vault.view_of c.args.vault.now) (g.V.Vault.view_of c.lookup.new.self) (g.V.Vault.view_of c.truncate.new.self) c.args.name.now c.in-Ok-Some.field-0 c.in-Ok-Some.f c.in-Ok-Some.field-0-is c.in-Ok-Some.ensures.found c.in-Ok-Some.ensures.asked c.truncate.ensures
+
+pub returns-in-Err-truncate-clause-frame : goal.returns-in-Err-truncate-clause-frame
+returns-in-Err-truncate-clause-frame g c =
+    truncated _ c.truncate.result (g.V.Vault.view_of c.args.vault.now) (g.V.Vault.view_of c.lookup.new.self) (g.V.Vault.view_of c.truncate.new.self) c.args.name.now c.in-Ok-Some.field-0 c.in-Ok-Some.f c.in-Ok-Some.field-0-is c.in-Ok-Some.ensures.found c.in-Ok-Some.ensures.asked c.truncate.ensures
+
+pub returns-in-Ok-create-clause-frame : goal.returns-in-Ok-create-clause-frame
+returns-in-Ok-create-clause-frame g c =
+    within_made _ _ (g.V.Vault.view_of c.args.vault.now) (g.V.Vault.view_of c.lookup.new.self) (g.V.Vault.view_of c.create.new.self) c.args.name.now _ c.in-Ok-None.ensures.asked c.in-Ok-create.ensures.made.0
+
+pub returns-in-Err-Exists-clause-error : goal.returns-in-Err-Exists-clause-error
+returns-in-Err-Exists-clause-error g c =
+    inr (refl, exists_untold _ (Err c.in-Err-Exists.field-0) (g.V.Vault.view_of c.args.vault.now) (g.V.Vault.view_of c.lookup.new.self) c.args.name.now c.in-Ok-None.field-0 c.in-Ok-None.ensures.asked c.in-Ok-None.field-0-is c.in-Ok-None.ensures.found (ap Err c.in-Err-Exists.field-0-is) c.in-Err-Exists.ensures.exists)
+
+pub returns-in-Err-Failed-clause-frame : goal.returns-in-Err-Failed-clause-frame
+returns-in-Err-Failed-clause-frame g c =
+    within_made _ _ (g.V.Vault.view_of c.args.vault.now) (g.V.Vault.view_of c.lookup.new.self) (g.V.Vault.view_of c.create.new.self) c.args.name.now _ c.in-Ok-None.ensures.asked (create_failed c.in-Err-Failed.field-0 c.args.name.now _ (g.V.Vault.view_of c.lookup.new.self) (g.V.Vault.view_of c.create.new.self) c.in-Err-Failed.field-0-is c.in-Err-Failed.ensures.made)

@@ -1,0 +1,64 @@
+use Rattle.std.proofs.Common.{◌≡◌, ℕ, ◌+◌, true, false, length, sym, ap, ◌∙◌}
+use Rattle.gd_store.specs.Opened.{Opened}
+use Rattle.gd_store.specs.Replies.{is_too_far}
+use Rattle.gd_store.proofs.Changing.{has_file_as, on_ok_always, on_ok_map, still_there}
+use Rattle.gd_store.proofs.Rooms.{can_put, far_refusal_told, fits_asked, found_asked, key_refusal_told, none_due_told, put_place, stored_after}
+use Rattle.gd_store.proofs.store.Store.store_pair.Goals as goal
+
+pub returns-in-Some-clause-refused : goal.returns-in-Some-clause-refused
+returns-in-Some-clause-refused g c =
+    key_refusal_told (g.V.Vault.view_of c.args.vault.now) c.args.self.now c.args.key.now c.in_ok-located.located.hash c.in_ok-located.located.at c.in_ok-located.located.bucket c.in_ok-located.located.place
+    (record { fits = c.requires.fits; whole = c.requires.whole; hash_is = c.in_ok-located.ensures.hash; elems = c.in_ok-located.ensures.slots; found = c.in_ok-located.ensures.found })
+    (g.V.Vault.view_of c.locate.new.vault) c.args.how c.args.self.now.header.next_block c.args.value.now c.in-Some.e (sym c.refusal.ensures.is ∙ c.in-Some.is)
+
+pub returns-then-is_too_far-clause-refused : goal.returns-then-is_too_far-clause-refused
+returns-then-is_too_far-clause-refused g c =
+    let same = c.self.view_is ∙ c.in_ok-located.ensures.same in
+    let next : c.args.self.now.header.next_block ≡ c.self.inside.header.next_block = sym (ap (λ (s : Opened). s.header.next_block) same) in
+    let far : is_too_far c.args.self.now.header.next_block (length c.args.key.now + length c.args.value.now) ≡ true =
+    ap (λ (n : ℕ). is_too_far n (length c.args.key.now + length c.args.value.now)) next ∙ sym c.is_too_far.ensures ∙ c.if-is_too_far.true in
+    far_refusal_told (g.V.Vault.view_of c.args.vault.now) c.args.self.now c.args.key.now c.in_ok-located.located.hash c.in_ok-located.located.at c.in_ok-located.located.bucket c.in_ok-located.located.place
+    (record { fits = c.requires.fits; whole = c.requires.whole; hash_is = c.in_ok-located.ensures.hash; elems = c.in_ok-located.ensures.slots; found = c.in_ok-located.ensures.found })
+    (g.V.Vault.view_of c.locate.new.vault) c.args.how c.args.self.now.header.next_block c.args.value.now (sym c.refusal.ensures.is ∙ c.in_default.is) far
+
+pub returns-clause-due : goal.returns-clause-due
+returns-clause-due g c =
+    let same = c.self.view_is ∙ c.in_ok-located.ensures.same in
+    let next : c.args.self.now.header.next_block ≡ c.self.inside.header.next_block = sym (ap (λ (s : Opened). s.header.next_block) same) in
+    let near : is_too_far c.args.self.now.header.next_block (length c.args.key.now + length c.args.value.now) ≡ false =
+    ap (λ (n : ℕ). is_too_far n (length c.args.key.now + length c.args.value.now)) next ∙ sym c.is_too_far.ensures ∙ c.if-is_too_far.false in
+    on_ok_always c.put.result _
+    (none_due_told (g.V.Vault.view_of c.args.vault.now) c.args.self.now c.args.key.now c.in_ok-located.located.hash c.in_ok-located.located.at c.in_ok-located.located.bucket c.in_ok-located.located.place
+    (record { fits = c.requires.fits; whole = c.requires.whole; hash_is = c.in_ok-located.ensures.hash; elems = c.in_ok-located.ensures.slots; found = c.in_ok-located.ensures.found })
+    c.args.how c.args.self.now.header.next_block c.args.value.now (sym c.refusal.ensures.is ∙ c.in_default.is) near)
+
+pub make_ready-requires-clause-fits : goal.make_ready-requires-clause-fits
+make_ready-requires-clause-fits g c = fits_asked (g.V.Vault.view_of c.args.vault.now) (g.V.Vault.view_of c.locate.new.vault) c.args.self.now c.locate.new.self c.in_ok-located.ensures.same c.in_ok-located.ensures.asks c.requires.fits
+
+pub make_ready-requires-clause-found : goal.make_ready-requires-clause-found
+make_ready-requires-clause-found g c =
+    found_asked (g.V.Vault.view_of c.args.vault.now) (g.V.Vault.view_of c.locate.new.vault) c.args.self.now c.locate.new.self c.args.key.now c.in_ok-located.located.at c.in_ok-located.located.bucket c.in_ok-located.located.place
+    c.in_ok-located.ensures.same c.in_ok-located.ensures.asks c.in_ok-located.ensures.found
+
+pub put-requires-clause-told : goal.put-requires-clause-told
+put-requires-clause-told g c =
+    let there = has_file_as (g.V.Vault.view_of c.locate.new.vault) c.args.self.now c.locate.new.self c.in_ok-located.ensures.same (still_there (g.V.Vault.view_of c.args.vault.now) (g.V.Vault.view_of c.locate.new.vault) c.args.self.now.file c.in_ok-located.ensures.asks c.requires.file) in
+    can_put (g.V.Vault.view_of c.locate.new.vault) (g.V.Vault.view_of c.make_ready.new.vault) c.locate.new.self.file c.make_ready.new.self _ c.args.key.now c.make_ready.new.located.at c.make_ready.new.located.bucket c.make_ready.new.located.place
+    c.in_ok-make_ready.ensures.frame there c.self-2.view_is (ap (λ (s : Opened). s.file) c.in_ok-make_ready.ensures.rest) c.in_ok-make_ready.ensures.ready
+
+pub put-requires-clause-place : goal.put-requires-clause-place
+put-requires-clause-place g c =
+    let there = has_file_as (g.V.Vault.view_of c.locate.new.vault) c.args.self.now c.locate.new.self c.in_ok-located.ensures.same (still_there (g.V.Vault.view_of c.args.vault.now) (g.V.Vault.view_of c.locate.new.vault) c.args.self.now.file c.in_ok-located.ensures.asks c.requires.file) in
+    put_place (g.V.Vault.view_of c.locate.new.vault) (g.V.Vault.view_of c.make_ready.new.vault) c.locate.new.self.file c.self-2.inside.file.0 c.make_ready.new.self.header c.make_ready.new.self.table c.args.key.now c.make_ready.new.located.at c.make_ready.new.located.bucket c.make_ready.new.located.place
+    c.in_ok-make_ready.ensures.frame there (ap (λ (s : Opened). s.file) c.self-2.view_is ∙ ap (λ (s : Opened). s.file) c.in_ok-make_ready.ensures.rest) c.in_ok-make_ready.ensures.ready
+
+pub returns-clause-stored : goal.returns-clause-stored
+returns-clause-stored g c =
+    let s' : Opened = record { file = c.self-2.inside.file.0; header = c.put.new.header; table = c.put.new.space.table; access = c.self-2.inside.access; broken = c.self-2.inside.broken; cache = c.self-2.inside.cache } in
+    let first = ap (λ (s : Opened). s.file) c.in_ok-located.ensures.same in
+    let second : c.self-2.inside.file.0 ≡ c.args.self.now.file = ap (λ (s : Opened). s.file) c.self-2.view_is ∙ ap (λ (s : Opened). s.file) c.in_ok-make_ready.ensures.rest ∙ first in
+    let writer = ap (λ (s : Opened). s.access) c.self-2.view_is ∙ ap (λ (s : Opened). s.access) c.in_ok-make_ready.ensures.rest ∙ ap (λ (s : Opened). s.access) c.in_ok-located.ensures.same ∙ c.requires.writer in
+    on_ok_map c.put.result _ _
+    (stored_after (g.V.Vault.view_of c.args.vault.now) (g.V.Vault.view_of c.locate.new.vault) (g.V.Vault.view_of c.make_ready.new.vault) (g.V.Vault.view_of c.put.new.vault) c.args.self.now.file c.locate.new.self.file c.self-2.inside.file.0 s'
+    c.make_ready.new.self.header c.make_ready.new.self.table c.args.key.now c.args.value.now c.make_ready.new.located.at c.make_ready.new.located.bucket c.put.new.bucket c.make_ready.new.located.place first second c.in_ok-located.ensures.asks writer c.in_ok-make_ready.ensures.ready)
+    c.put.ensures.changes

@@ -1,0 +1,63 @@
+-- What a change does to an open database and its file.
+use Rattle.std.specs.Prelude.{◌≡◌, ℕ, ◌+◌, ◌≤◌, Bool, true, ◌||◌, is_some, nat_lt, List, Option, if◌then◌else◌}
+use Rattle.gd_base.specs.declared.errors.DbError.{DbError}
+use Rattle.gd_base.specs.declared.errors.DbError.TheVariants.{OutOfMemory}
+use Rattle.gd_format.specs.declared.Header.{Header}
+use Rattle.gd_format.specs.Avail.{Avail}
+use Rattle.gd_format.specs.Bucket.{Bucket}
+use Rattle.gd_change.specs.Open as change
+use Rattle.gd_grow.specs.Refusals.{is_growth_error}
+use Rattle.gd_format.specs.File.{records}
+use Rattle.gd_format.specs.Sound.{lost_total}
+use Rattle.gd_format.specs.Slots.{count, is_full}
+use Rattle.gd_parts.specs.Parts.{file_header}
+use Rattle.gd_lookup.specs.Finding.{key_slots}
+use Rattle.gd_store.specs.Replies.{value_of}
+use Rattle.gd_laws.specs.Maps.{PairMap, pair_map}
+use Rattle.gd_vault.specs.Views.{View}
+use Rattle.gd_change.specs.Calls.{Goes}
+use Rattle.gd_store.specs.Opened.{Opened, IsOpenOn}
+
+-- a file afterwards: it is the database's, and its map and what is lost of it
+pub record IsChanged (s : Opened) (map : PairMap) (more : ℕ) (old new : List ℕ) : Type 0 where
+  pub is_open : IsOpenOn s new
+  pub map_is : pair_map (records new) ≡ map
+  pub lost : lost_total new ≤ lost_total old + more
+
+-- where the content is told, the file becomes one with a map, of which so many more bytes are lost at most; both go by the
+-- bytes before
+abbrev pub Becomes : (old new : View) (f : ℕ) (s : Opened) (map : List ℕ → PairMap) (more : List ℕ → ℕ) → Type 0
+Becomes old new f s map more = Goes old new f (λ x y. IsChanged s (map x) (more x) x y)
+
+-- has a key a slot, or its bucket an empty one?
+abbrev pub has_slot : List ℕ → List ℕ → Bool
+has_slot file key = is_some (value_of (records file) key) || nat_lt (count is_full (key_slots file key)) (file_header file).elems
+
+-- how many more bytes a store may lose: few where no bucket is split
+abbrev pub store_loss : List ℕ → List ℕ → ℕ
+store_loss file key = if has_slot file key then 64 else 4096
+
+-- how many more bytes may be lost before the pair is put: none where no bucket is split
+abbrev pub ready_loss : List ℕ → List ℕ → ℕ
+ready_loss file key = if has_slot file key then 0 else 4032
+
+-- before a pair is put: the file may be changed, its map is the old one, the bucket of the key stands at the address, and
+-- the place is that of the key's slot
+pub record IsReady (old new : List ℕ) (h : Header) (table : Avail) (at : ℕ) (bucket : Bucket) (key : List ℕ) (place : Option ℕ) : Type 0 where
+  pub still_open : change.IsOpen new h table
+  pub here : change.IsHere new h at bucket key
+  pub place_is : change.IsPlaceOf new bucket.slots key place
+  pub map : pair_map (records new) ≡ pair_map (records old)
+  pub lost : lost_total new ≤ lost_total old + ready_loss old key
+
+-- why no room was made: want of memory, or an error of growth
+abbrev pub is_room_error : DbError → Bool
+is_room_error OutOfMemory = true
+is_room_error e = is_growth_error e
+
+-- what a change leaves of an open database: all but its header's end of space, its table, and whether it is broken
+pub record Keeps (s s' : Opened) : Type 0 where
+  pub file : s'.file ≡ s.file
+  pub access : s'.access ≡ s.access
+  pub cache : s'.cache ≡ s.cache
+  pub block : s'.header.block ≡ s.header.block

@@ -1,0 +1,6 @@
+pub mod Changed
+pub mod Held
+pub mod Located
+pub mod Opened
+pub mod Replies
+pub mod Trial

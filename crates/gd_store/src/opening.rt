@@ -1,0 +1,265 @@
+//! Opening a database, and closing it.
+
+ghost use Rattle.std.specs.Prelude.{◌≡◌, ◌≢◌, ◌⊎◌, ◌≤◌, true, false, [], None, Some, IfOk, IfErr, OnOk, OnErr, length};
+ghost use Rattle.gd_base.specs.Causes.{Rose};
+ghost use Rattle.gd_format.specs.Avail.{avail_at};
+ghost use Rattle.gd_create.specs.NewFile.{IsNewHeader, new_file};
+ghost use Rattle.gd_create.specs.Stands.{Stands};
+ghost use Rattle.gd_format.specs.File.{front_of, records};
+ghost use Rattle.gd_format.specs.HeaderFault.{header_of, is_native};
+ghost use Rattle.gd_layout.specs.Fits.{FitsHeader};
+ghost use Rattle.gd_format.specs.Headers.{IsHeader};
+ghost use Rattle.gd_format.specs.Sound.{most_of, table_of};
+ghost use Rattle.gd_vault.specs.Content.{File};
+ghost use Rattle.gd_vault.specs.Changes.{Changed};
+ghost use Rattle.gd_vault.specs.Events.Call.{Sync};
+ghost use Rattle.gd_vault.specs.Frame.{Within, OneFile, NoName};
+ghost use Rattle.gd_vault.specs.Views.{HasFile, IsAt, OnlyAsks, content_of};
+ghost use Rattle.gd_verify.specs.Asks.{Refuses};
+ghost use Rattle.gd_store.specs.Opened.{Fits, IsAsked, IsNamed, OnFile, OpenedAs, StandsFor, fault_for, open_due};
+
+use crate::access::Access;
+use crate::store::Store;
+use gd_base::{DbError, Format, Name, Which};
+use gd_create::{block_for, make_file, new_header};
+use gd_format::Header;
+use gd_sound::sound;
+use gd_space::{Space, SpaceError};
+use gd_vault::{CreateError, FileId, Mode, Vault};
+use gd_verify::readable;
+use std::alloc::Global;
+
+// The file for which a name stands.
+fn named_file<V: Vault>(vault: &mut V, name: &Name) -> Result<FileId, DbError>
+    ensures asks { OnlyAsks (V.view_of vault.old) (V.view_of vault.new) }
+    ensures named { IfOk result (λ f. StandsFor (V.view_of vault.old) name.now f.0) }
+    ensures there { IfOk result (λ f. HasFile (V.view_of vault.old) f.0) }
+    ensures error { IfErr result (λ e. (e ≡ DbError.VaultFault) ⊎ (e ≡ DbError.Absent)) }
+    ensures fault { IfErr result (λ e. e ≡ DbError.VaultFault → Rose (V.view_of vault.old).faults (V.view_of vault.new).faults) }
+    ensures absent { IfErr result (λ e. e ≡ DbError.Absent → IsAt (V.view_of vault.old) (λ c. c.names name.now ≡ None)) }
+{
+    match vault.lookup(name) {
+        Ok(Some(f)) => Ok(f),
+        Ok(None) => Err(DbError::Absent),
+        Err(_) => Err(DbError::VaultFault),
+    }
+}
+
+// The header of a file that may be opened.
+fn checked<V: Vault>(
+    alloc: Global,
+    vault: &mut V,
+    f: FileId,
+    access: Access,
+) -> Result<Header, DbError>
+    requires { HasFile (V.view_of vault.old) f.0 }
+    ensures asks { OnlyAsks (V.view_of vault.old) (V.view_of vault.new) }
+    ensures header { IfOk result IsHeader }
+    ensures fits { IfOk result FitsHeader }
+    ensures native { IfOk result (λ h. is_native h.magic ≡ true) }
+    ensures right { IfOk result (λ h. OnFile (V.view_of vault.old) f.0 (λ file. (fault_for access file ≡ None) × (h ≡ header_of (front_of file)))) }
+    ensures refused { IfErr result (λ e. Refuses e (Rose (V.view_of vault.old).faults (V.view_of vault.new).faults) (OnFile (V.view_of vault.old) f.0 (λ file. fault_for access file ≡ Some e))) }
+{
+    match access {
+        Access::Reader => readable(alloc, vault, f),
+        Access::Writer => sound(alloc, vault, f),
+    }
+}
+
+// What is kept of the free space of a sound file.
+fn loaded<V: Vault>(
+    alloc: Global,
+    vault: &mut V,
+    f: FileId,
+    header: &Header,
+) -> Result<Space, DbError>
+    requires file { HasFile (V.view_of vault.old) f.0 }
+    requires header { IsHeader header.now }
+    ensures asks { OnlyAsks (V.view_of vault.old) (V.view_of vault.new) }
+    ensures block { IfOk result (λ s. s.block ≡ header.now.block) }
+    ensures room { IfOk result (λ s. s.table.room ≡ most_of header.now) }
+    ensures fits { IfOk result (λ s. length s.table.extents ≤ header.now.avail_size) }
+    ensures table { IfOk result (λ s. IsAt (V.view_of vault.old) (λ c. (x : File) → c.files f.0 ≡ Some x → s.table ≡ avail_at (table_of x.bytes header.now) (most_of header.now))) }
+    ensures refused { IfErr result (λ e. Refuses e (Rose (V.view_of vault.old).faults (V.view_of vault.new).faults) (OnFile (V.view_of vault.old) f.0 (λ file. header.now ≡ header_of (front_of file) → fault_for Access.Writer file ≢ None))) }
+{
+    match Space::load(alloc, vault, f, header) {
+        Ok(space) => Ok(space),
+        Err(SpaceError::VaultFault) => Err(DbError::VaultFault),
+        Err(SpaceError::BadAvail(at)) => Err(DbError::BadAvail(at)),
+        Err(SpaceError::FileFull) => Err(DbError::FileFull),
+        Err(SpaceError::OutOfMemory) => Err(DbError::OutOfMemory),
+    }
+}
+
+// What is kept of the free space of a file: of one that is opened to be read nothing.
+fn space_of<V: Vault>(
+    alloc: Global,
+    vault: &mut V,
+    f: FileId,
+    header: &Header,
+    access: Access,
+) -> Result<Space, DbError>
+    requires file { HasFile (V.view_of vault.old) f.0 }
+    requires header { IsHeader header.now }
+    ensures asks { OnlyAsks (V.view_of vault.old) (V.view_of vault.new) }
+    ensures block { IfOk result (λ s. s.block ≡ header.now.block) }
+    ensures room { IfOk result (λ s. s.table.room ≡ most_of header.now) }
+    ensures fits { IfOk result (λ s. length s.table.extents ≤ header.now.avail_size) }
+    ensures table { access ≡ Access.Writer → IfOk result (λ s. IsAt (V.view_of vault.old) (λ c. (x : File) → c.files f.0 ≡ Some x → s.table ≡ avail_at (table_of x.bytes header.now) (most_of header.now))) }
+    ensures refused { IfErr result (λ e. Refuses e (Rose (V.view_of vault.old).faults (V.view_of vault.new).faults) (OnFile (V.view_of vault.old) f.0 (λ file. header.now ≡ header_of (front_of file) → fault_for access file ≢ None))) }
+{
+    match access {
+        Access::Reader => match Space::empty(alloc, header) {
+            Some(space) => Ok(space),
+            None => Err(DbError::OutOfMemory),
+        },
+        Access::Writer => loaded(alloc, vault, f, header),
+    }
+}
+
+// An empty file for a name: a new one, or the one for which it stands.
+fn emptied<V: Vault>(vault: &mut V, name: &Name) -> Result<FileId, DbError>
+    ensures stands { IfOk result (λ f. StandsFor (V.view_of vault.new) name.now f.0) }
+    ensures empty { IfOk result (λ f. OnFile (V.view_of vault.new) f.0 (λ file. file ≡ [])) }
+    ensures there { IfOk result (λ f. HasFile (V.view_of vault.new) f.0) }
+    ensures own { IfOk result (λ f. IsNamed (V.view_of vault.old) name.now f.0) }
+    ensures error { IfErr result (λ e. (e ≡ DbError.VaultFault) ⊎ ((e ≡ DbError.Exists Which.Only) × (content_of (V.view_of vault.old).told ≡ None))) }
+    ensures fault { IfErr result (λ e. e ≡ DbError.VaultFault → Rose (V.view_of vault.old).faults (V.view_of vault.new).faults) }
+    ensures bytes_written { (V.view_of vault.new).bytes_written ≡ (V.view_of vault.old).bytes_written }
+    ensures frame { Within (IsNamed (V.view_of vault.old) name.now) (λ n. n ≡ name.now) (V.view_of vault.old) (V.view_of vault.new) }
+{
+    match vault.lookup(name) {
+        Ok(Some(f)) => match vault.truncate(f) {
+            Ok(()) => Ok(f),
+            Err(_) => Err(DbError::VaultFault),
+        },
+        Ok(None) => match vault.create(name, Mode::Both) {
+            Ok(f) => Ok(f),
+            Err(CreateError::Exists) => Err(DbError::Exists(Which::Only)),
+            Err(CreateError::Failed) => Err(DbError::VaultFault),
+        },
+        Err(_) => Err(DbError::VaultFault),
+    }
+}
+
+impl Store {
+    /// Makes an empty database in the file for which a name stands, or in a new one. An older file loses all that it had.
+    ///
+    /// The block size is 4,096 bytes where a number below 512 is asked for, else the least power of two that is not smaller.
+    /// Nothing is made durable. The refusals are `VaultFault`, `OutOfMemory`, and over a vault that contradicts itself
+    /// `Exists`.
+    pub fn create<V: Vault>(
+        alloc: Global,
+        vault: &mut V,
+        name: &Name,
+        size: u32,
+        format: Format,
+        cache: u32,
+    ) -> Result<Store, DbError>
+        requires size { size ≤ 1048576 }
+        requires least { 1 ≤ cache }
+        requires most { cache ≤ 4096 }
+        ensures opened { IfOk result (λ s. OpenedAs (V.view_of vault.new) name.now Access.Writer cache s) }
+        ensures there { IfOk result (λ s. HasFile (V.view_of vault.new) s.file) }
+        ensures fits { IfOk result (λ s. Fits (V.view_of vault.new) s) }
+        ensures sizes { IfOk result (λ s. IsAsked size format s.header) }
+        ensures bytes { IfOk result (λ s. OnFile (V.view_of vault.new) s.file (λ file. (file ≡ new_file format s.header.block s.header.dir_bits) × (records file ≡ []))) }
+        ensures refused { IfErr result (λ e. Refuses e (Rose (V.view_of vault.old).faults (V.view_of vault.new).faults) ((e ≡ DbError.Exists Which.Only) × (content_of (V.view_of vault.old).told ≡ None))) }
+        ensures frame { Within (IsNamed (V.view_of vault.old) name.now) (λ n. n ≡ name.now) (V.view_of vault.old) (V.view_of vault.new) }
+    {
+        let header = new_header(block_for(size), format);
+        let Some(space) = Space::empty(alloc, &header) else {
+            return Err(DbError::OutOfMemory);
+        };
+        let Ok(block) = vec![in alloc; 0u8; header.block as usize] else {
+            return Err(DbError::OutOfMemory);
+        };
+        let file = emptied(vault, name)?;
+        let mut store = Store {
+            alloc,
+            file,
+            header,
+            space,
+            block,
+            access: Access::Writer,
+            broken: false,
+            cache,
+        };
+        store.write_new(vault)?;
+        Ok(store)
+    }
+
+    // Writes the blocks of a new file into the empty one.
+    fn write_new<V: Vault>(&mut self, vault: &mut V) -> Result<(), DbError>
+        requires file { HasFile (V.view_of vault.old) self.old.file }
+        requires new { IsNewHeader self.old.header }
+        ensures same { self.new ≡ self.old }
+        ensures made { OnOk result ((x : File) → Stands (V.view_of vault.old) self.old.file x → x.bytes ≡ [] → Stands (V.view_of vault.new) self.old.file (record x { bytes = new_file self.old.header.format self.old.header.block self.old.header.dir_bits })) }
+        ensures there { HasFile (V.view_of vault.new) self.old.file }
+        ensures error { IfErr result (λ e. e ≡ DbError.VaultFault) }
+        ensures fault { OnErr result (Rose (V.view_of vault.old).faults (V.view_of vault.new).faults) }
+        ensures frame { Within (OneFile self.old.file) NoName (V.view_of vault.old) (V.view_of vault.new) }
+    {
+        make_file(vault, self.file, &self.header, &mut self.block)
+    }
+
+    /// Opens the file for which a name stands, after checking all of it: one that is to be read has to be readable, and
+    /// one that is to be written has to be sound.
+    ///
+    /// The refusals are `Absent`, the first refusal of the file, `VaultFault` and `OutOfMemory`.
+    pub fn open_file<V: Vault>(
+        alloc: Global,
+        vault: &mut V,
+        name: &Name,
+        access: Access,
+        cache: u32,
+    ) -> Result<Store, DbError>
+        requires least { 1 ≤ cache }
+        requires most { cache ≤ 4096 }
+        ensures asks { OnlyAsks (V.view_of vault.old) (V.view_of vault.new) }
+        ensures opened { IfOk result (λ s. OpenedAs (V.view_of vault.new) name.now access cache s) }
+        ensures there { IfOk result (λ s. HasFile (V.view_of vault.new) s.file) }
+        ensures fits { IfOk result (λ s. Fits (V.view_of vault.new) s) }
+        ensures refused { IfErr result (λ e. Refuses e (Rose (V.view_of vault.old).faults (V.view_of vault.new).faults) (IsAt (V.view_of vault.old) (λ c. open_due c name.now access ≡ Some e))) }
+    {
+        let file = named_file(vault, name)?;
+        let header = checked(alloc, vault, file, access)?;
+        let space = space_of(alloc, vault, file, &header, access)?;
+        let Ok(block) = vec![in alloc; 0u8; header.block as usize] else {
+            return Err(DbError::OutOfMemory);
+        };
+        Ok(Store {
+            alloc,
+            file,
+            header,
+            space,
+            block,
+            access,
+            broken: false,
+            cache,
+        })
+    }
+
+    #[tactic(auto, using(gd_vault::proofs::Within::within))]
+    /// Makes the file of a writer durable. Of a broken database or a reader's it does nothing. The database is gone after a
+    /// refusal too.
+    pub fn close_file<V: Vault>(self, vault: &mut V) -> Result<(), DbError>
+        requires { HasFile (V.view_of vault.old) self.file }
+        ensures same { OnFile (V.view_of vault.old) self.file (λ file. OnFile (V.view_of vault.new) self.file (λ now. now ≡ file)) }
+        ensures frame { Within (OneFile self.file) NoName (V.view_of vault.old) (V.view_of vault.new) }
+        ensures bytes_written { (V.view_of vault.new).bytes_written ≡ (V.view_of vault.old).bytes_written }
+        ensures clones { (V.view_of vault.new).clones ≡ (V.view_of vault.old).clones }
+        ensures error { IfErr result (λ e. (e ≡ DbError.VaultFault) × Rose (V.view_of vault.old).faults (V.view_of vault.new).faults) }
+        ensures synced { self.broken ≡ false → self.access ≡ Access.Writer → Changed (Sync self.file) result (V.view_of vault.old) (V.view_of vault.new) }
+        ensures reader { self.access ≡ Access.Reader → V.view_of vault.new ≡ V.view_of vault.old }
+        ensures broken { self.broken ≡ true → V.view_of vault.new ≡ V.view_of vault.old }
+    {
+        if self.broken || self.access == Access::Reader {
+            return Ok(());
+        }
+        match vault.sync(self.file) {
+            Ok(()) => Ok(()),
+            Err(_) => Err(DbError::VaultFault),
+        }
+    }
+}

@@ -1,0 +1,93 @@
+//! An open database.
+
+ghost use Rattle.std.specs.Prelude.{◌≡◌, ◌≤◌, ◌<◌, true};
+
+use crate::access::Access;
+use gd_format::Header;
+use gd_space::Space;
+use gd_vault::FileId;
+use std::alloc::Global;
+use std::marker::Model;
+
+/// An open database: a file of a vault, what is kept of its header and of its table of free space, and room for one
+/// block.
+///
+/// It doesn't own its vault. Each call is given the vault in which its file is.
+#[derive(Drop)]
+pub struct Store {
+    pub(crate) alloc: Global,
+    pub(crate) file: FileId,
+    pub(crate) header: Header,
+    pub(crate) space: Space,
+    pub(crate) block: Vec<u8>,
+    pub(crate) access: Access,
+    pub(crate) broken: bool,
+    pub(crate) cache: u32,
+}
+
+impl Model for Store {
+    ghost use Rattle.std.specs.Prelude.{length};
+    ghost use Rattle.gd_store.specs.Opened.{Opened};
+    ghost use Rattle.gd_store.specs.Held.{FitsStore};
+
+    ghost Value = { Opened };
+
+    ghost view = { λ s. record { file = s.file.0; header = s.header; table = s.space.table; access = s.access; broken = s.broken; cache = s.cache } };
+
+    ghost invariant = { λ s. FitsStore s.header s.space (length s.block.items) s.cache };
+}
+
+impl Store {
+    /// The header of the file as the store knows it.
+    pub fn header(&self) -> &Header
+        ensures { result.now ≡ self.now.header }
+    {
+        &self.header
+    }
+
+    /// Sets how many buckets may be kept.
+    pub fn set_cache(&mut self, size: u32)
+        requires least { 1 ≤ size }
+        requires most { size ≤ 4096 }
+        ensures { self.new ≡ record self.old { cache = size } }
+    {
+        self.cache = size;
+    }
+
+    /// How many buckets may be kept.
+    pub fn cache(&self) -> u32
+        ensures is { result ≡ self.now.cache }
+        ensures least { 1 ≤ result }
+        ensures most { result ≤ 4096 }
+    {
+        self.cache
+    }
+
+    /// Did a changing call meet a fault of the vault, or was the store given up?
+    pub fn is_broken(&self) -> bool
+        ensures { result ≡ self.now.broken }
+    {
+        self.broken
+    }
+
+    /// Makes the store broken: from now on each call that can refuse does so.
+    pub fn give_up(&mut self)
+        ensures { self.new ≡ record self.old { broken = true } }
+    {
+        self.broken = true;
+    }
+
+    /// The file in which the database is.
+    pub fn file(&self) -> FileId
+        ensures { result.0 ≡ self.now.file }
+    {
+        self.file
+    }
+
+    /// For what the database was opened.
+    pub fn access(&self) -> Access
+        ensures { result ≡ self.now.access }
+    {
+        self.access
+    }
+}
