@@ -1,6 +1,7 @@
 use crate::Access;
 use crate::trial::Trial;
 use gd_base::{DbError, Format};
+use gd_layout::hash;
 use std::alloc::Global;
 use std::process::Abort;
 use std::test::Fail;
@@ -108,6 +109,83 @@ fn digits(n: u32) -> [u8; 5] {
         rest /= 10;
     }
     text
+}
+
+// Where the decimal text of a number below 100000 begins among its five digits.
+fn first_digit(n: u32) -> usize {
+    match n {
+        0..=9 => 4,
+        10..=99 => 3,
+        100..=999 => 2,
+        1000..=9999 => 1,
+        _ => 0,
+    }
+}
+
+// Do the first bits of all hashes agree?
+fn agree(hashes: &[u32; 17], bits: u32) -> bool {
+    if bits > 24 {
+        return false;
+    }
+    for hash in hashes {
+        if *hash >> (31 - bits) != hashes[0] >> (31 - bits) {
+            return false;
+        }
+    }
+    true
+}
+
+// Stores the first 17 decimal texts whose hashes begin with the six bits of 13; answers the hashes.
+fn store_thirteens(trial: &mut Trial) -> Option<[u32; 17]> {
+    let mut hashes = [0; 17];
+    let mut found = 0usize;
+    for n in 0..20_000u32 {
+        let all = digits(n);
+        let text = &all[first_digit(n)..];
+        let hash = hash(text);
+        if hash >> 25 == 13 && found < 17 {
+            if trial.insert(text, text) != Ok(()) {
+                return None;
+            }
+            hashes[found] = hash;
+            found += 1;
+        }
+    }
+    if found < 17 {
+        return None;
+    }
+    Some(hashes)
+}
+
+// How many of the decimal texts whose hashes begin with the six bits of 13 are there.
+fn thirteens(trial: &mut Trial) -> u32 {
+    let mut found = 0;
+    for n in 0..20_000u32 {
+        let all = digits(n);
+        let text = &all[first_digit(n)..];
+        if hash(text) >> 25 == 13 && trial.has(text, text) && found < 1000 {
+            found += 1;
+        }
+    }
+    found
+}
+
+#[test]
+fn the_directory_doubles(rt: HostRuntime) -> Result<(), Fail> {
+    let Some(mut trial) = Trial::new(rt.alloc(), 512, Format::Standard) else {
+        return Err("refused".into());
+    };
+    let Some(hashes) = store_thirteens(&mut trial) else {
+        return Err("refused".into());
+    };
+    let mut bits = 7;
+    while agree(&hashes, bits) {
+        bits += 1;
+    }
+    assert!(rt; trial.bits() == bits);
+    assert!(rt; thirteens(&mut trial) == 17);
+    assert!(rt; trial.is_sound(rt.alloc()));
+    Ok(())
 }
 
 // Numbers of a fixed generator.
