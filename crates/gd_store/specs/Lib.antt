@@ -3,4 +3,3 @@ pub mod Held
 pub mod Located
 pub mod Opened
 pub mod Replies
-pub mod Trial

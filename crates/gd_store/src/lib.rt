@@ -12,10 +12,6 @@ mod opening;
 mod reading;
 mod store;
 mod storing;
-#[cfg(test)]
-mod tests;
-#[cfg(test)]
-mod trial;
 
 pub use crate::access::{Access, How};
 pub use crate::store::Store;
