@@ -90,23 +90,50 @@ fn a_new_numsync_file(rt: HostRuntime) -> Result<(), Fail> {
     Ok(())
 }
 
+// The first 44 bytes of a new standard file of block 4,096: its directory at 4,096 with 9 bits, 166 slots, the next block at
+// 16,384, and room for 252 extents.
+const LARGE_START: [u8; 44] = [
+    0xcf, 0x9a, 0x57, 0x13, 0, 0x10, 0, 0, 0, 0x10, 0, 0, 0, 0, 0, 0, 0, 0x10, 0, 0, 9, 0, 0, 0, 0,
+    0x10, 0, 0, 0xa6, 0, 0, 0, 0, 0x40, 0, 0, 0, 0, 0, 0, 0xfc, 0, 0, 0,
+];
+
+// Puts the directory and the bucket of a file of block 4,096.
+fn put_large_rest(rt: &impl Abort, file: &mut [u8]) {
+    for i in 0usize..512 {
+        put(rt, file, 4096 + 8 * i, b"\0\x20");
+    }
+    put(rt, file, 8192, b"\x01");
+    put(rt, file, 8200, b"\0\x10");
+    put(rt, file, 8208, b"\0\x30");
+    for s in 0usize..166 {
+        put(rt, file, 8304 + 24 * s, b"\xff\xff\xff\xff");
+    }
+}
+
 #[test]
-fn a_new_file_of_the_default_block(rt: HostRuntime) -> Result<(), Fail> {
+fn a_new_standard_file_of_the_default_block(rt: HostRuntime) -> Result<(), Fail> {
     let mut vault = MemVault::plain(rt.alloc());
     let (f, answer) = made(&mut vault, rt.alloc(), 0, Format::Standard)?;
     assert!(rt; answer.is_ok());
-    // Block 4,096, directory at 4,096 with 9 bits, 166 slots, next block 16,384, and room for 252 extents.
-    let start = [
-        0xcf, 0x9a, 0x57, 0x13, 0, 0x10, 0, 0, 0, 0x10, 0, 0, 0, 0, 0, 0, 0, 0x10, 0, 0, 9, 0, 0,
-        0, 0, 0x10, 0, 0, 0xa6, 0, 0, 0, 0, 0x40, 0, 0, 0, 0, 0, 0, 0xfc, 0, 0, 0,
-    ];
-    let file = vault.bytes(f);
-    assert!(rt; file.len() == 12288);
-    assert!(rt; file.starts_with(&start));
-    // The last entry, the free extent, the last slot and the last byte.
-    assert!(rt; file[8184] == 0 && file[8185] == 0x20 && file[8192] == 1);
-    assert!(rt; file[8201] == 0x10 && file[8208] == 0 && file[8209] == 0x30);
-    assert!(rt; file[12264] == 0xff && file[12268] == 0 && file[12287] == 0);
+    let mut want = vec![in rt.alloc(); 0u8; 12288]?;
+    put(&rt, &mut want, 0, &LARGE_START);
+    put_large_rest(&rt, &mut want);
+    assert!(rt; vault.bytes(f) == want.as_slice());
+    Ok(())
+}
+
+#[test]
+fn a_new_numsync_file_of_the_default_block(rt: HostRuntime) -> Result<(), Fail> {
+    let mut vault = MemVault::plain(rt.alloc());
+    let (f, answer) = made(&mut vault, rt.alloc(), 4096, Format::Numsync)?;
+    assert!(rt; answer.is_ok());
+    let mut want = vec![in rt.alloc(); 0u8; 12288]?;
+    put(&rt, &mut want, 0, &LARGE_START);
+    put(&rt, &mut want, 0, b"\xd1");
+    put(&rt, &mut want, 40, b"\0");
+    put(&rt, &mut want, 72, b"\xfa");
+    put_large_rest(&rt, &mut want);
+    assert!(rt; vault.bytes(f) == want.as_slice());
     Ok(())
 }
 

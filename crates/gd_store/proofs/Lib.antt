@@ -1,6 +1,7 @@
 pub mod Asking
 pub mod Changing
 pub mod Frames
+pub mod Growth
 pub mod Lookups
 pub mod News
 pub mod OpenFacts

@@ -67,7 +67,7 @@ due_by Replace None None x y e f = rw (f refl) refl
 due_by how (Some p) None x y e f = absurd cc
 due_by how None (Some q) x y e f = absurd cc
 
-place_tells : (file key : List ℕ) (bucket : Bucket) (p : Option ℕ) → located.IsPlaceOf file key bucket p → is_some p ≡ is_some (value_of (records file) key)
+pub place_tells : (file key : List ℕ) (bucket : Bucket) (p : Option ℕ) → located.IsPlaceOf file key bucket p → is_some p ≡ is_some (value_of (records file) key)
 place_tells file key bucket (Some p) is = sym (ap is_some is.value)
 place_tells file key bucket None is = sym (ap is_some is.value)
 

@@ -1,19 +1,22 @@
 -- What a change does to an open database and its file.
-use Rattle.std.specs.Prelude.{◌≡◌, ℕ, ◌+◌, ◌≤◌, Bool, true, ◌||◌, is_some, nat_lt, List, Option, if◌then◌else◌}
+use Rattle.std.specs.Prelude.{◌≡◌, ℕ, ◌+◌, ◌≤◌, Bool, true, ◌||◌, is_some, max, nat_le, nat_lt, List, Option, None, if◌then◌else◌}
 use Rattle.gd_base.specs.declared.errors.DbError.{DbError}
 use Rattle.gd_base.specs.declared.errors.DbError.TheVariants.{OutOfMemory}
 use Rattle.gd_format.specs.declared.Header.{Header}
 use Rattle.gd_format.specs.Avail.{Avail}
-use Rattle.gd_format.specs.Bucket.{Bucket}
+use Rattle.gd_format.specs.Bucket.{Bucket, bucket_at}
+use Rattle.gd_format.specs.declared.Extent.{Extent}
 use Rattle.gd_change.specs.Open as change
 use Rattle.gd_grow.specs.Refusals.{is_growth_error}
-use Rattle.gd_format.specs.File.{records}
+use Rattle.gd_format.specs.File.{block_of, records}
 use Rattle.gd_format.specs.Sound.{lost_total}
 use Rattle.gd_format.specs.Slots.{count, is_full}
 use Rattle.gd_parts.specs.Parts.{file_header}
 use Rattle.gd_lookup.specs.Finding.{key_slots}
 use Rattle.gd_store.specs.Replies.{value_of}
+use Rattle.gd_laws.specs.Lookup.{index_of}
 use Rattle.gd_laws.specs.Maps.{PairMap, pair_map}
+use Rattle.gd_space.specs.Sizes.{largest}
 use Rattle.gd_vault.specs.Views.{View}
 use Rattle.gd_change.specs.Calls.{Goes}
 use Rattle.gd_store.specs.Opened.{Opened, IsOpenOn}
@@ -40,6 +43,21 @@ store_loss file key = if has_slot file key then 64 else 4096
 -- how many more bytes may be lost before the pair is put: none where no bucket is split
 abbrev pub ready_loss : List ℕ → List ℕ → ℕ
 ready_loss file key = if has_slot file key then 0 else 4032
+
+-- the free extents of the bucket of a key
+abbrev pub key_free : List ℕ → List ℕ → List Extent
+key_free file key = (bucket_at (block_of file (file_header file) (index_of (file_header file) key)) (file_header file).elems).free
+
+-- has an extent of the table, or one of the bucket of the key, so many bytes?
+abbrev pub has_extent : List ℕ → Avail → List ℕ → ℕ → Bool
+has_extent file table key n = nat_le n (max (largest table.extents) (largest (key_free file key)))
+
+-- a new pair of so many bytes finds its room in the file: its key is absent, the bucket of the key has an empty slot, and an
+-- extent of the table or of that bucket is large enough
+pub record FindsRoom (file : List ℕ) (table : Avail) (key : List ℕ) (n : ℕ) : Type 0 where
+  pub absent : value_of (records file) key ≡ None
+  pub slot : has_slot file key ≡ true
+  pub extent : has_extent file table key n ≡ true
 
 -- before a pair is put: the file may be changed, its map is the old one, the bucket of the key stands at the address, and
 -- the place is that of the key's slot

@@ -18,7 +18,7 @@ ghost use Rattle.gd_change.specs.Open.{IsOpen};
 ghost use Rattle.gd_split.specs.Held.{HasBucket};
 ghost use Rattle.gd_split.specs.Turns.{Turns};
 ghost use Rattle.gd_grow.specs.Growth.{IsRoomMade, IsWider};
-ghost use Rattle.gd_store.specs.Changed.{Becomes, IsReady, Keeps, has_slot, is_room_error, store_loss};
+ghost use Rattle.gd_store.specs.Changed.{Becomes, FindsRoom, IsReady, Keeps, has_slot, is_room_error, store_loss};
 ghost use Rattle.gd_store.specs.Located.{IsFoundIn};
 ghost use Rattle.gd_store.specs.Opened.{Fits, OnFile};
 ghost use Rattle.gd_store.specs.Replies.{is_fault, key_due, pair_due, store_due, RefusedChanging};
@@ -161,6 +161,7 @@ impl Store {
         ensures few { OnOk result (OnFile (V.view_of vault.old) self.old.file (λ file. has_slot file key.now ≡ true → (self.new ≡ self.old) × OnlyAsks (V.view_of vault.old) (V.view_of vault.new))) }
         ensures elems { length located.new.bucket.slots ≡ self.new.header.elems }
         ensures hash { located.new.hash ≡ located.old.hash }
+        ensures place { located.new.place ≡ located.old.place }
         ensures header { IsWider self.old.header self.new.header }
         ensures rest { self.new ≡ record self.old { header = self.new.header; table = self.new.table } }
         ensures bound { self.new.header.next_block ≤ self.old.header.next_block + (2 ^ 29 - 2 ^ 25) }
@@ -201,6 +202,7 @@ impl Store {
         ensures block { self.new.header.block ≡ self.old.header.block }
         ensures growth { OnOk result (self.new.header.next_block + 2 * dir_size_of self.old.header.dir_bits ≤ self.old.header.next_block + (length key.now + length value.now) + 256 * self.old.header.block + 2 * dir_size_of self.new.header.dir_bits) }
         ensures growth_few { OnOk result (OnFile (V.view_of vault.old) self.old.file (λ file. has_slot file key.now ≡ true → self.new.header.next_block ≤ self.old.header.next_block + (length key.now + length value.now + 3 * self.old.header.block))) }
+        ensures growth_none { OnOk result (OnFile (V.view_of vault.old) self.old.file (λ file. FindsRoom file self.old.table key.now (length key.now + length value.now) → self.new.header.next_block ≡ self.old.header.next_block)) }
         ensures amount { WritesAtMost (length key.now + length value.now + 154 * self.old.header.block + 2 ^ 30) (V.view_of vault.old) (V.view_of vault.new) }
         ensures amount_few { OnOk result (OnFile (V.view_of vault.old) self.old.file (λ file. has_slot file key.now ≡ true → WritesAtMost (length key.now + length value.now + 4 * self.old.header.block) (V.view_of vault.old) (V.view_of vault.new))) }
         ensures frame { Within (OneFile self.old.file) NoName (V.view_of vault.old) (V.view_of vault.new) }
@@ -260,6 +262,7 @@ impl Store {
         ensures same { Keeps self.old self.new }
         ensures growth { OnOk result (self.new.header.next_block + 2 * dir_size_of self.old.header.dir_bits ≤ self.old.header.next_block + (length key.now + length value.now) + 256 * self.old.header.block + 2 * dir_size_of self.new.header.dir_bits) }
         ensures growth_few { OnOk result (OnFile (V.view_of vault.old) self.old.file (λ file. has_slot file key.now ≡ true → self.new.header.next_block ≤ self.old.header.next_block + (length key.now + length value.now + 3 * self.old.header.block))) }
+        ensures growth_none { OnOk result (OnFile (V.view_of vault.old) self.old.file (λ file. FindsRoom file self.old.table key.now (length key.now + length value.now) → self.new.header.next_block ≡ self.old.header.next_block)) }
         ensures amount { WritesAtMost (length key.now + length value.now + 154 * self.old.header.block + 2 ^ 30) (V.view_of vault.old) (V.view_of vault.new) }
         ensures amount_few { OnOk result (OnFile (V.view_of vault.old) self.old.file (λ file. has_slot file key.now ≡ true → WritesAtMost (length key.now + length value.now + 4 * self.old.header.block) (V.view_of vault.old) (V.view_of vault.new))) }
         ensures frame { Within (OneFile self.old.file) NoName (V.view_of vault.old) (V.view_of vault.new) }

@@ -2,6 +2,7 @@ use Rattle.std.proofs.Common.{◌≡◌, ℕ, ◌+◌, true, false, length, sym,
 use Rattle.gd_store.specs.Opened.{Opened}
 use Rattle.gd_store.specs.Replies.{is_too_far}
 use Rattle.gd_store.proofs.Changing.{has_file_as, on_ok_always, on_ok_map, still_there}
+use Rattle.gd_store.proofs.Growth.{grows_not}
 use Rattle.gd_store.proofs.Rooms.{can_put, far_refusal_told, fits_asked, found_asked, key_refusal_told, none_due_told, put_place, stored_after}
 use Rattle.gd_store.proofs.store.Store.store_pair.Goals as goal
 
@@ -62,3 +63,14 @@ returns-clause-stored g c =
     (stored_after (g.V.Vault.view_of c.args.vault.now) (g.V.Vault.view_of c.locate.new.vault) (g.V.Vault.view_of c.make_ready.new.vault) (g.V.Vault.view_of c.put.new.vault) c.args.self.now.file c.locate.new.self.file c.self-2.inside.file.0 s'
     c.make_ready.new.self.header c.make_ready.new.self.table c.args.key.now c.args.value.now c.make_ready.new.located.at c.make_ready.new.located.bucket c.put.new.bucket c.make_ready.new.located.place first second c.in_ok-located.ensures.asks writer c.in_ok-make_ready.ensures.ready)
     c.put.ensures.changes
+
+pub returns-clause-growth_none : goal.returns-clause-growth_none
+returns-clause-growth_none g c =
+    let q : Opened = record { file = c.self-2.inside.file.0; header = c.self-2.inside.header; table = c.self-2.inside.space.table; access = c.self-2.inside.access; broken = c.self-2.inside.broken; cache = c.self-2.inside.cache } in
+    let file_is : c.self-2.inside.file.0 ≡ c.args.self.now.file = ap (λ (s : Opened). s.file) c.self-2.view_is ∙ ap (λ (s : Opened). s.file) c.in_ok-make_ready.ensures.rest ∙ ap (λ (s : Opened). s.file) c.in_ok-located.ensures.same in
+    on_ok_map c.put.result _ _
+    (grows_not (g.V.Vault.view_of c.args.vault.now) (g.V.Vault.view_of c.locate.new.vault) (g.V.Vault.view_of c.make_ready.new.vault) c.args.self.now c.locate.new.self c.make_ready.new.self q c.self-2.inside.file.0 c.args.key.now
+    c.in_ok-located.located.hash c.in_ok-located.located.at c.in_ok-located.located.bucket c.in_ok-located.located.place c.make_ready.new.located.place c.make_ready.new.located.at c.make_ready.new.located.bucket (length c.args.key.now + length c.args.value.now) c.put.new.header.next_block
+    (record { fits = c.requires.fits; whole = c.requires.whole; hash_is = c.in_ok-located.ensures.hash; elems = c.in_ok-located.ensures.slots; found = c.in_ok-located.ensures.found })
+    c.in_ok-located.ensures.asks c.in_ok-located.ensures.same c.in_ok-make_ready.ensures.few c.in_ok-make_ready.ensures.ready c.in_ok-make_ready.ensures.place file_is c.self-2.view_is)
+    c.put.ensures.growth_absent
