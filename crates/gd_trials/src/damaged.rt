@@ -92,8 +92,18 @@ fn a_short_file_is_refused(rt: HostRuntime) -> Result<(), Fail> {
     let Some(start) = file.get(..39) else {
         return Err("too short".into());
     };
-    assert!(rt; matches!(Trial::open(rt.alloc(), start, Access::Reader), Err(DbError::ShortFile)));
-    assert!(rt; matches!(Trial::open(rt.alloc(), start, Access::Writer), Err(DbError::ShortFile)));
+    assert!(rt;
+        matches!(
+            Trial::open(rt.alloc(), start, Access::Reader),
+            Err(DbError::ShortFile)
+        )
+    );
+    assert!(rt;
+        matches!(
+            Trial::open(rt.alloc(), start, Access::Writer),
+            Err(DbError::ShortFile)
+        )
+    );
     Ok(())
 }
 

@@ -41,7 +41,6 @@ pub fn next_state(state: u64) -> u64 {
 }
 
 /// The number of a state.
-pub fn number_of(state: u64) -> u32
-{
+pub fn number_of(state: u64) -> u32 {
     (state >> 33) as u32
 }

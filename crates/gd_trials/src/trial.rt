@@ -82,27 +82,22 @@ impl Trial {
         self.store.delete(&mut self.vault, key)
     }
 
-    #[tactic(auto, using(crate::proofs::Kept::kept))]
     pub fn fetch(&mut self, key: &[u8]) -> Result<Datum, DbError> {
         self.store.fetch(&mut self.vault, key)
     }
 
-    #[tactic(auto, using(crate::proofs::Kept::kept))]
     pub fn exists(&mut self, key: &[u8]) -> Result<bool, DbError> {
         self.store.exists(&mut self.vault, key)
     }
 
-    #[tactic(auto, using(crate::proofs::Kept::kept))]
     pub fn first(&mut self) -> Result<Datum, DbError> {
         self.store.first(&mut self.vault)
     }
 
-    #[tactic(auto, using(crate::proofs::Kept::kept))]
     pub fn next(&mut self, key: &[u8]) -> Result<Datum, DbError> {
         self.store.next(&mut self.vault, key)
     }
 
-    #[tactic(auto, using(crate::proofs::Kept::kept))]
     pub fn count(&mut self) -> Result<u64, DbError> {
         self.store.count(&mut self.vault)
     }
@@ -116,7 +111,6 @@ impl Trial {
     }
 
     /// Is the file sound?
-    #[tactic(auto, using(crate::proofs::Kept::kept))]
     pub fn is_sound(&mut self, alloc: Global) -> bool {
         sound(alloc, &mut self.vault, self.store.file()).is_ok()
     }
