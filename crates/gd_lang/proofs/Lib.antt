@@ -1,0 +1,5 @@
+pub mod Bracing
+pub mod Digits
+pub mod Naming
+pub mod Refusing
+pub mod Steps
