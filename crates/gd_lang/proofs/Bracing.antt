@@ -70,6 +70,12 @@ braced-mark LeftBrace mark ts is = refl
 braced-mark RightBrace mark ts is = refl
 braced-mark Comma mark ts is = refl
 
+pub not_a_word : (token : Token) → ((word : List ℕ) → token ≡ Word word → ⊥) → word_in token ≡ None
+not_a_word (Word word) other = absurd (other word refl)
+not_a_word LeftBrace other = refl
+not_a_word RightBrace other = refl
+not_a_word Comma other = refl
+
 module _ (all left : List Token) (words : List (List ℕ)) (so_far : braced_of all ≡ before_all words (braced_of left)) where
   pub braced_is_short : length left < 2 → braced_of all ≡ Err Arguments
   braced_is_short h = so_far ∙ ap (before_all words) (braced-short left h)

@@ -13,11 +13,11 @@ use Rattle.gd_lang.specs.declared.errors.LangError.{LangError}
 use Rattle.gd_lang.specs.declared.errors.LangError.TheVariants.{Arguments}
 
 no-text : (word : List ℕ) (t : Bool) → is_utf8 word ≡ t → (IsUtf8 word → ⊥) → is_utf8 word ≡ false
-no-text word true is no = absurd (no (IsUtf8-from_is_utf8 word is))
-no-text word false is no = is
+no-text word true is refuted = absurd (refuted (IsUtf8-from_is_utf8 word is))
+no-text word false is refuted = is
 
 pub not_utf8 : (word : List ℕ) → (IsUtf8 word → ⊥) → is_utf8 word ≡ false
-not_utf8 word no = no-text word (is_utf8 word) refl no
+not_utf8 word refuted = no-text word (is_utf8 word) refl refuted
 
 and-false : (b : Bool) → (b && false) ≡ false
 and-false true = refl

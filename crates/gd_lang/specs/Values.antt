@@ -68,12 +68,17 @@ open_setting value =
     else (if bytes_eq value (codes "wrcreat") || bytes_eq value (codes "rw") then Some (Opening WrCreat)
     else (if bytes_eq value (codes "reader") || bytes_eq value (codes "readonly") then Some (Opening Reader) else None))
 
+-- the variables whose values are words
+abbrev pub named_setting : List ℕ → Option Setting
+named_setting word =
+    if starts_with nat_eq word (codes "format=") then format_setting (drop 7 word)
+    else (if starts_with nat_eq word (codes "open=") then open_setting (drop 5 word)
+    else None)
+
 -- a word NAME=VALUE, where NAME is that of a variable and VALUE a value of it
 abbrev pub setting_of : List ℕ → Option Setting
 setting_of word =
     if starts_with nat_eq word (codes "blocksize=") then block_setting (drop 10 word)
     else (if starts_with nat_eq word (codes "cachesize=") then cache_setting (drop 10 word)
     else (if starts_with nat_eq word (codes "delim1=") then delim_setting (drop 7 word)
-    else (if starts_with nat_eq word (codes "format=") then format_setting (drop 7 word)
-    else (if starts_with nat_eq word (codes "open=") then open_setting (drop 5 word)
-    else None))))
+    else named_setting word))

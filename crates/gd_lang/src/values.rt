@@ -5,7 +5,7 @@ ghost use Rattle.std.specs.Char.{is_ascii_digit};
 ghost use Rattle.std.specs.List.{list_all};
 ghost use Rattle.gd_lang.specs.Commands.{wanted};
 ghost use Rattle.gd_lang.specs.Refusals.{Answers};
-ghost use Rattle.gd_lang.specs.Values.{block_setting, cache_setting, delim_setting, format_setting, is_number, if_at_most, name_of, number_up_to, open_setting, setting_of, value_of};
+ghost use Rattle.gd_lang.specs.Values.{block_setting, cache_setting, delim_setting, format_setting, if_at_most, is_number, name_of, named_setting, number_up_to, open_setting, setting_of, value_of};
 
 use crate::{LangError, Opening, Setting};
 use gd_base::{Datum, Format, Name, NameError};
@@ -144,6 +144,19 @@ fn wanted(setting: Option<Setting>) -> Result<Setting, LangError>
     }
 }
 
+/// A variable whose value is a word, with its value.
+fn named_setting(word: &[u8]) -> Option<Setting>
+    ensures { result ≡ named_setting word.now }
+{
+    if word.starts_with(b"format=") {
+        format_setting(&word[7..])
+    } else if word.starts_with(b"open=") {
+        open_setting(&word[5..])
+    } else {
+        None
+    }
+}
+
 /// A variable with its value, from a word `NAME=VALUE`.
 pub(crate) fn setting_of(alloc: Global, word: &[u8]) -> Result<Setting, LangError>
     ensures { Answers result (wanted (setting_of word.now)) }
@@ -154,11 +167,7 @@ pub(crate) fn setting_of(alloc: Global, word: &[u8]) -> Result<Setting, LangErro
         wanted(cache_setting(&word[10..]))
     } else if word.starts_with(b"delim1=") {
         delim_setting(alloc, &word[7..])
-    } else if word.starts_with(b"format=") {
-        wanted(format_setting(&word[7..]))
-    } else if word.starts_with(b"open=") {
-        wanted(open_setting(&word[5..]))
     } else {
-        Err(LangError::Arguments)
+        wanted(named_setting(word))
     }
 }
