@@ -15,3 +15,6 @@ pub use lexing::lex;
 pub use parsing::parse;
 pub use rows::{COMMANDS, command_table, find_command};
 pub use tokens::{Token, Tokens};
+
+#[cfg(test)]
+mod tests;

@@ -31,10 +31,7 @@ fn push_copy(alloc: Global, words: &mut Words, word: &Datum) -> Result<(), LangE
 }
 
 /// The words behind a left brace up to the right one, and what stands behind it.
-fn braced<'a>(
-    alloc: Global,
-    tokens: &'a [Token],
-) -> Result<(Words, &'a [Token]), LangError>
+fn braced<'a>(alloc: Global, tokens: &'a [Token]) -> Result<(Words, &'a [Token]), LangError>
     ensures { MatchResult result (λ read. braced_of tokens.now ≡ Ok (read.0, read.1.now)) (λ e. Refuses e (braced_of tokens.now)) }
 {
     let mut words = Words::new(alloc);

@@ -21,7 +21,7 @@ returns-else-is_err c =
     let pushed : c.push.new.self.items ≡ word ++ c.in-Some.byte ∷ [] = search rules in
     let short = tail-shorter rest c.in-len1-up.len_at_least in (
       ap (tokens_at (Escaped word)) (front-and-tail rest c.in-len1-up.len_at_least) ∙ escaped-letter word (get_or rest 0 0) (tail rest) c.in-Some.byte some
-      ∙ ap (λ (w : List ℕ). tokens_at (Quoted w) (tail rest)) (sym pushed),
+          ∙ ap (λ (w : List ℕ). tokens_at (Quoted w) (tail rest)) (sym pushed),
       omega (arith, short),
     )
 

@@ -26,8 +26,8 @@ returns-in_err-left c =
     let on : parts (get_or left 0 0) (tail left) ≡ false = cc in
     let word = word_on [] (get_or left 0 0) (λ place. tokens_at place (tail left)) in
     let is : tokens_of c.args.line.now ≡ behind front word =
-        c.loop-left.invariant ∙ ap (λ (l : List ℕ). behind front (tokens_at Between l)) (front-and-tail left c.in-len1-up.len_at_least)
-        ∙ ap (λ (l : Lexed). behind front l) (between-word (get_or left 0 0) (tail left) on c.if-byte-eq35.false) in
+    c.loop-left.invariant ∙ ap (λ (l : List ℕ). behind front (tokens_at Between l)) (front-and-tail left c.in-len1-up.len_at_least)
+    ∙ ap (λ (l : Lexed). behind front l) (between-word (get_or left 0 0) (tail left) on c.if-byte-eq35.false) in
     answers-exit c.from_residual-in_err-left.result e (tokens_of c.args.line.now) c.from_residual-in_err-left.ensures.1
     (refuses-along (tokens_of c.args.line.now) (behind front word) e is (refuses-behind front word e c.in_err-left.ensures))
 

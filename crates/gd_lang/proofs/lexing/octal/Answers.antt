@@ -43,7 +43,7 @@ returns c =
     let first = tail-shorter rest c.in-len1-up.len_at_least in
     let second = tail-shorter (tail rest) c.in-len1-up-rest.len_at_least in (
       ap (tokens_at (Second word c.args.first)) (front-and-tail rest c.in-len1-up.len_at_least) ∙ second-digit word c.args.first (get_or rest 0 0) (tail rest) digit
-      ∙ ap (tokens_at (Third word n)) (front-and-tail (tail rest) c.in-len1-up-rest.len_at_least) ∙ third-digit word n (get_or (tail rest) 0 0) (tail (tail rest)) other
-      ∙ ap (λ (w : List ℕ). tokens_at (Quoted w) (tail (tail rest))) (sym pushed),
+          ∙ ap (tokens_at (Third word n)) (front-and-tail (tail rest) c.in-len1-up-rest.len_at_least) ∙ third-digit word n (get_or (tail rest) 0 0) (tail (tail rest)) other
+          ∙ ap (λ (w : List ℕ). tokens_at (Quoted w) (tail (tail rest))) (sym pushed),
       omega (arith, first, second),
     )

@@ -11,7 +11,7 @@ returns-then-parts c =
     let ends : parts (get_or left 0 0) (tail left) ≡ true = cc in
     let is = front-and-tail left c.in-len1-up.len_at_least in (
       c.loop-left.invariant.same ∙ ap (tokens_at (Inside word)) is ∙ inside-parts word (get_or left 0 0) (tail left) ends
-      ∙ ap (λ (l : List ℕ). with_token (Word word) (tokens_at Between l)) (sym is),
+          ∙ ap (λ (l : List ℕ). with_token (Word word) (tokens_at Between l)) (sym is),
       c.loop-left.invariant.short,
     )
 
@@ -23,7 +23,7 @@ returns-in_err-left c =
     let on : parts (get_or left 0 0) (tail left) ≡ false = cc in
     let e = c.in_err-left.field-0.0 in
     let due = refuses-along all (word_on word (get_or left 0 0) (λ place. tokens_at place (tail left))) e
-        (c.loop-left.invariant.same ∙ ap (tokens_at (Inside word)) (front-and-tail left c.in-len1-up.len_at_least) ∙ inside-on word (get_or left 0 0) (tail left) on) c.in_err-left.ensures in
+    (c.loop-left.invariant.same ∙ ap (tokens_at (Inside word)) (front-and-tail left c.in-len1-up.len_at_least) ∙ inside-on word (get_or left 0 0) (tail left) on) c.in_err-left.ensures in
     exits-leads c.from_residual.result e all (λ (l : List ℕ). with_token (Word c.word_part.new.word.items) (tokens_at Between l)) (length c.args.rest.now) c.from_residual.ensures.1 due
 
 pub loop-left-preserved : goal.loop-left-preserved

@@ -21,7 +21,7 @@ loop-left-preserved c =
     let mark = c.mark-item.result in
     let word = c.in-Word.word in
     let is = two_fronted left c.first-item.result mark c.in-len2-up.len_at_least c.first-item.is c.mark-item.is
-        ∙ ap (λ (t : Token). t ∷ mark ∷ behind_two left) c.in-Word.is ∙ ap (λ (t : Token). Word word ∷ t ∷ behind_two left) c.in-Comma.is in
+    ∙ ap (λ (t : Token). t ∷ mark ∷ behind_two left) c.in-Word.is ∙ ap (λ (t : Token). Word word ∷ t ∷ behind_two left) c.in-Comma.is in
     braced_goes_on c.args.tokens.now left c.loop-left.words c.loop-left.invariant word (behind_two left) is
     ∙ ap (λ (ws : List (List ℕ)). before_all ws (braced_of (behind_two left))) (sym c.in_ok-push_copy.ensures)
 
@@ -31,7 +31,7 @@ returns-in-RightBrace c =
     let mark = c.mark-item.result in
     let word = c.in-Word.word in
     let is = two_fronted left c.first-item.result mark c.in-len2-up.len_at_least c.first-item.is c.mark-item.is
-        ∙ ap (λ (t : Token). t ∷ mark ∷ behind_two left) c.in-Word.is ∙ ap (λ (t : Token). Word word ∷ t ∷ behind_two left) c.in-RightBrace.is in
+    ∙ ap (λ (t : Token). t ∷ mark ∷ behind_two left) c.in-Word.is ∙ ap (λ (t : Token). Word word ∷ t ∷ behind_two left) c.in-RightBrace.is in
     braced_ends c.args.tokens.now left c.loop-left.words c.loop-left.invariant word (behind_two left) is
     ∙ ap (λ (ws : List (List ℕ)). Ok (ws, behind_two left)) (sym c.in_ok-push_copy.ensures)
 
@@ -41,7 +41,7 @@ returns-in-Word-mark c =
     let mark = c.mark-item.result in
     let word = c.in-Word.word in
     let is = two_fronted left c.first-item.result mark c.in-len2-up.len_at_least c.first-item.is c.mark-item.is
-        ∙ ap (λ (t : Token). t ∷ mark ∷ behind_two left) c.in-Word.is in
+    ∙ ap (λ (t : Token). t ∷ mark ∷ behind_two left) c.in-Word.is in
     elim c.in-Word-mark.is [
       | inl h ↦ braced_is_other c.args.tokens.now left c.loop-left.words c.loop-left.invariant word mark (behind_two left) is (λ e. cc) (λ e. cc)
       | inr h ↦ braced_is_other c.args.tokens.now left c.loop-left.words c.loop-left.invariant word mark (behind_two left) is (λ e. cc) (λ e. cc)
