@@ -1,25 +1,17 @@
 -- Words in braces, and lists of tokens by their front.
-use Rattle.std.proofs.Common.{◌≡◌, ◌∙◌, ap, sym, refl, ℕ, ◌-◌, ◌<◌, ◌≤◌, List, [], ◌∷◌, ◌++◌, length, drop, get_or, take, Result, Ok, Err, Option, Some, None, append_assoc, append-nil, arith}
+use Rattle.std.proofs.Common.{◌≡◌, ◌∙◌, ap, sym, refl, ℕ, ◌-◌, ◌<◌, ◌≤◌, List, [], ◌∷◌, ◌++◌, length, drop, get_or, take, Ok, Err, None, append_assoc, arith}
 use Rattle.std.proofs.lemmas.List.{take_rest}
-use Rattle.gd_lang.specs.Commands.{Read, and_then, braced_of, data_of, ended, wanted, word_before, word_in}
-use Rattle.gd_lang.specs.declared.errors.LangError.{LangError}
+use Rattle.gd_lang.specs.Commands.{Read, braced_of, word_before, word_in}
 use Rattle.gd_lang.specs.declared.errors.LangError.TheVariants.{Arguments}
 use Rattle.gd_lang.specs.declared.tokens.Token.{Token}
 use Rattle.gd_lang.specs.declared.tokens.Token.TheVariants.{Word, LeftBrace, RightBrace, Comma}
 
 -- ---- lists by their front
 
-one-front : (ts : List Token) (a : Token) → 1 ≤ length ts → a ≡ get_or ts 0 a → ts ≡ a ∷ drop 1 ts
-one-front [] a h is = absurd (omega arith)
-one-front (t ∷ ts) a h is = ap (λ (x : Token). x ∷ ts) (sym is)
-
 two-front : (ts : List Token) (a b : Token) → 2 ≤ length ts → a ≡ get_or ts 0 a → b ≡ get_or ts 1 b → ts ≡ a ∷ b ∷ drop 2 ts
 two-front [] a b h is other = absurd (omega arith)
 two-front (t ∷ []) a b h is other = absurd (omega arith)
 two-front (t ∷ u ∷ ts) a b h is other = ap (λ (x : Token). x ∷ u ∷ ts) (sym is) ∙ ap (λ (x : Token). a ∷ x ∷ ts) (sym other)
-
-pub one_fronted : (ts : List Token) (a : Token) → 1 ≤ length ts → a ≡ get_or ts 0 a → ts ≡ a ∷ take (length ts - 1) (drop 1 ts)
-one_fronted ts a h is = one-front ts a h is ∙ ap (λ (l : List Token). a ∷ l) (sym (take_rest ts 1))
 
 pub two_fronted : (ts : List Token) (a b : Token) → 2 ≤ length ts → a ≡ get_or ts 0 a → b ≡ get_or ts 1 b → ts ≡ a ∷ b ∷ take (length ts - 2) (drop 2 ts)
 two_fronted ts a b h is other = two-front ts a b h is other ∙ ap (λ (l : List Token). a ∷ b ∷ l) (sym (take_rest ts 2))
@@ -34,10 +26,6 @@ before_all words (Err e) = Err e
 before-step : (words : List (List ℕ)) (word : List ℕ) (read : Read) → before_all words (word_before word read) ≡ before_all (words ++ word ∷ []) read
 before-step words word (Ok (more, rest)) = ap (λ (l : List (List ℕ)). Ok (l, rest)) (sym (append_assoc words (word ∷ []) more))
 before-step words word (Err e) = refl
-
-pub before-none : (read : Read) → read ≡ before_all [] read
-before-none (Ok (more, rest)) = refl
-before-none (Err e) = refl
 
 braced-short : (ts : List Token) → length ts < 2 → braced_of ts ≡ Err Arguments
 unfolding braced_of

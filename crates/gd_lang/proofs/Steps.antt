@@ -1,9 +1,9 @@
 -- What a byte does at its place in a line.
-use Rattle.std.proofs.Common.{◌≡◌, ◌≢◌, ◌∙◌, ap, sym, refl, ℕ, ◌+◌, ◌-◌, ◌*◌, ◌<◌, ◌≤◌, Bool, true, false, cond, List, [], ◌∷◌, ◌++◌, length, drop, get_or, Option, Some, None, Result, Ok, Err, MatchResult, IsErrAnd, Bor, subst, take, append_assoc, arith}
+use Rattle.std.proofs.Common.{◌≡◌, ◌≢◌, ◌∙◌, ap, sym, refl, ℕ, ◌+◌, ◌-◌, ◌*◌, ◌<◌, ◌≤◌, true, false, List, [], ◌∷◌, ◌++◌, length, drop, get_or, Option, Some, None, Result, Ok, Err, MatchResult, IsErrAnd, Bor, subst, take, arith}
 use Rattle.std.specs.Prelude.{◌==◌}
 use Rattle.std.proofs.lemmas.Bool.{cond-true, cond-false, eq-eqb, ne_eqb}
 use Rattle.std.proofs.lemmas.List.{take_rest}
-use Rattle.gd_lang.specs.Lexing.{Lexed, Place, Between, Inside, Quoted, Escaped, Second, Third, behind, escape_on, is_octal, letter_of, mark_of, parts, tokens_at, with_mark, with_marks, with_token, word_on}
+use Rattle.gd_lang.specs.Lexing.{Lexed, Place, Between, Inside, Quoted, Escaped, Second, Third, behind, escape_on, is_octal, letter_of, parts, tokens_at, with_mark, with_token, word_on}
 use Rattle.gd_lang.specs.Refusals.{Refuses}
 use Rattle.gd_lang.specs.declared.errors.LangError.{LangError}
 use Rattle.gd_lang.specs.declared.errors.LangError.TheVariants.{UnknownCommand, Ambiguous, Arguments, Quote, Escape, Unbuilt, OutOfMemory}
@@ -95,12 +95,6 @@ third-wrong word n b bs digit = cond-false (is_octal 55 b) _ _ digit
 
 -- ---- words
 
-pub word-quote : (word : List ℕ) (b : ℕ) (bs : List ℕ) → b ≡ 34 → word_on word b (λ place. tokens_at place bs) ≡ tokens_at (Quoted word) bs
-word-quote word b bs is = cond-true (b == 34) _ _ (eq-eqb b 34 is)
-
-pub word-plain : (word : List ℕ) (b : ℕ) (bs : List ℕ) → b ≢ 34 → word_on word b (λ place. tokens_at place bs) ≡ tokens_at (Inside (word ++ b ∷ [])) bs
-word-plain word b bs other = cond-false (b == 34) _ _ (ne_eqb b 34 other)
-
 pub inside-on : (word : List ℕ) (b : ℕ) (bs : List ℕ) → parts b bs ≡ false → tokens_at (Inside word) (b ∷ bs) ≡ word_on word b (λ place. tokens_at place bs)
 unfolding tokens_at
 inside-on word b bs on = cond-false (parts b bs) _ _ on
@@ -131,16 +125,6 @@ between-comment b bs on is = cond-false (parts b bs) _ _ on ∙ cond-true (b == 
 pub between-word : (b : ℕ) (bs : List ℕ) → parts b bs ≡ false → b ≢ 35 → tokens_at Between (b ∷ bs) ≡ word_on [] b (λ place. tokens_at place bs)
 unfolding tokens_at
 between-word b bs on other = cond-false (parts b bs) _ _ on ∙ cond-false (b == 35) _ _ (ne_eqb b 35 other)
-
--- ---- tokens before others
-
-pub behind-token : (front : List Token) (token : Token) (rest : Lexed) → behind front (with_token token rest) ≡ behind (front ++ token ∷ []) rest
-behind-token front token (Ok tokens) = ap Ok (sym (append_assoc front (token ∷ []) tokens))
-behind-token front token (Err e) = refl
-
-pub behind-none : (rest : Lexed) → behind [] rest ≡ rest
-behind-none (Ok tokens) = refl
-behind-none (Err e) = refl
 
 -- ---- answers
 

@@ -1,4 +1,4 @@
-use Rattle.std.proofs.Common.{◌≡◌, ◌∙◌, ap, ℕ, ◌-◌, ◌≤◌, ◌<◌, true, false, List, [], ◌∷◌, ◌++◌, length, get_or, sym, Some, None, arith, rules}
+use Rattle.std.proofs.Common.{◌≡◌, ◌∙◌, ap, ℕ, ◌-◌, true, false, List, [], ◌∷◌, ◌++◌, length, get_or, sym, Some, None, arith, rules}
 use Rattle.gd_lang.specs.Lexing.{Escaped, Quoted, Second, is_octal, letter_of, tokens_at}
 use Rattle.gd_lang.proofs.Steps.{emptied, escaped-cut, escaped-letter, escaped-octal, escaped-wrong, front-and-tail, leads-along, tail, tail-shorter}
 use Rattle.gd_lang.proofs.lexing.escape.Goals as goal

@@ -1,4 +1,4 @@
-use Rattle.std.proofs.Common.{◌≡◌, ◌∙◌, ap, ℕ, ◌+◌, ◌-◌, ◌*◌, ◌≤◌, ◌<◌, true, false, List, [], ◌∷◌, ◌++◌, length, get_or, sym, arith, rules}
+use Rattle.std.proofs.Common.{◌≡◌, ◌∙◌, ap, ℕ, ◌+◌, ◌-◌, ◌*◌, true, false, List, [], ◌∷◌, ◌++◌, get_or, sym, arith, rules}
 use Rattle.gd_lang.specs.Lexing.{Quoted, Second, Third, is_octal, tokens_at}
 use Rattle.gd_lang.proofs.Steps.{emptied, front-and-tail, second-cut, second-digit, second-wrong, tail, tail-shorter, third-cut, third-digit, third-wrong}
 use Rattle.gd_lang.proofs.lexing.octal.Goals as goal

@@ -1,7 +1,7 @@
-use Rattle.std.proofs.Common.{◌≡◌, ◌∙◌, ap, sym, ℕ, List, [], ◌∷◌, ◌++◌, Ok, length, ◌-◌, drop, take, inl, inr}
+use Rattle.std.proofs.Common.{◌∙◌, ap, sym, ℕ, List, ◌∷◌, Ok, length, ◌-◌, drop, take, inl, inr}
 use Rattle.gd_lang.specs.Commands.{braced_of}
 use Rattle.gd_lang.specs.declared.tokens.Token.{Token}
-use Rattle.gd_lang.specs.declared.tokens.Token.TheVariants.{Word, Comma, RightBrace}
+use Rattle.gd_lang.specs.declared.tokens.Token.TheVariants.{Word}
 use Rattle.gd_lang.proofs.Bracing.{before_all, braced_ends, braced_goes_on, braced_is_other, braced_is_short, braced_without_word, not_a_word, two_fronted}
 use Rattle.gd_lang.proofs.parsing.braced.Goals as goal
 

@@ -1,4 +1,4 @@
-use Rattle.std.proofs.Common.{◌≡◌, ◌∙◌, ap, sym, ℕ, List, Ok}
+use Rattle.std.proofs.Common.{◌∙◌, ap, sym, ℕ, List, Ok}
 use Rattle.std.proofs.lemmas.Str.{is_utf8-from_IsUtf8}
 use Rattle.gd_base.specs.Names.{name_fault}
 use Rattle.gd_lang.proofs.Naming.{name_is, no_text_no_name, not_utf8}
