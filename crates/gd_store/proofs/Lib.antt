@@ -1,5 +1,6 @@
 pub mod Asking
 pub mod Changing
+pub mod Clearing
 pub mod Frames
 pub mod Growth
 pub mod Lookups

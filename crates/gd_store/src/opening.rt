@@ -16,7 +16,7 @@ ghost use Rattle.gd_vault.specs.Events.Call.{Sync};
 ghost use Rattle.gd_vault.specs.Frame.{Within, OneFile, NoName};
 ghost use Rattle.gd_vault.specs.Views.{HasFile, IsAt, OnlyAsks, content_of};
 ghost use Rattle.gd_verify.specs.Asks.{Refuses};
-ghost use Rattle.gd_store.specs.Opened.{Fits, IsAsked, IsNamed, OnFile, OpenedAs, StandsFor, fault_for, open_due};
+ghost use Rattle.gd_store.specs.Opened.{Fits, IsAsked, IsCleared, IsNamed, OnFile, OpenedAs, StandsFor, fault_for, open_due};
 
 use crate::access::Access;
 use crate::store::Store;
@@ -121,6 +121,7 @@ fn space_of<V: Vault>(
 fn emptied<V: Vault>(vault: &mut V, name: &Name) -> Result<FileId, DbError>
     ensures stands { IfOk result (λ f. StandsFor (V.view_of vault.new) name.now f.0) }
     ensures empty { IfOk result (λ f. OnFile (V.view_of vault.new) f.0 (λ file. file ≡ [])) }
+    ensures cleared { IfOk result (λ f. IsCleared (V.view_of vault.old) (V.view_of vault.new) name.now f.0 []) }
     ensures there { IfOk result (λ f. HasFile (V.view_of vault.new) f.0) }
     ensures own { IfOk result (λ f. IsNamed (V.view_of vault.old) name.now f.0) }
     ensures error { IfErr result (λ e. (e ≡ DbError.VaultFault) ⊎ ((e ≡ DbError.Exists Which.Only) × (content_of (V.view_of vault.old).told ≡ None))) }
@@ -143,7 +144,8 @@ fn emptied<V: Vault>(vault: &mut V, name: &Name) -> Result<FileId, DbError>
 }
 
 impl Store {
-    /// Makes an empty database in the file for which a name stands, or in a new one. An older file loses all that it had.
+    /// Makes an empty database in the file for which a name stands, or in a new one of mode `Both`. An older file loses all that
+    /// it had, and keeps its mode and its stamp.
     ///
     /// The block size is 4,096 bytes where a number below 512 is asked for, else the least power of two that is not smaller.
     /// Nothing is made durable. The refusals are `VaultFault`, `OutOfMemory`, and over a vault that contradicts itself
@@ -164,6 +166,7 @@ impl Store {
         ensures fits { IfOk result (λ s. Fits (V.view_of vault.new) s) }
         ensures sizes { IfOk result (λ s. IsAsked size format s.header) }
         ensures bytes { IfOk result (λ s. OnFile (V.view_of vault.new) s.file (λ file. (file ≡ new_file format s.header.block s.header.dir_bits) × (records file ≡ []))) }
+        ensures cleared { IfOk result (λ s. IsCleared (V.view_of vault.old) (V.view_of vault.new) name.now s.file (new_file format s.header.block s.header.dir_bits)) }
         ensures refused { IfErr result (λ e. Refuses e (Rose (V.view_of vault.old).faults (V.view_of vault.new).faults) ((e ≡ DbError.Exists Which.Only) × (content_of (V.view_of vault.old).told ≡ None))) }
         ensures frame { Within (IsNamed (V.view_of vault.old) name.now) (λ n. n ≡ name.now) (V.view_of vault.old) (V.view_of vault.new) }
     {

@@ -1,4 +1,6 @@
+use Rattle.std.specs.Prelude.{is_ok}
 use Rattle.std.proofs.Common.{◌≡◌, inl, inr, refl, sym, ap, ◌∙◌, Some, None, Err}
+use Rattle.gd_store.proofs.Clearing.{created_clears, truncated_clears}
 use Rattle.gd_store.proofs.Frames.{truncated, within_made, exists_untold, create_failed}
 use Rattle.gd_store.proofs.opening.emptied.Goals as goal
 
@@ -21,3 +23,11 @@ returns-in-Err-Exists-clause-error g c =
 pub returns-in-Err-Failed-clause-frame : goal.returns-in-Err-Failed-clause-frame
 returns-in-Err-Failed-clause-frame g c =
     within_made _ _ (g.V.Vault.view_of c.args.vault.now) (g.V.Vault.view_of c.lookup.new.self) (g.V.Vault.view_of c.create.new.self) c.args.name.now _ c.in-Ok-None.ensures.asked (create_failed c.in-Err-Failed.field-0 c.args.name.now _ (g.V.Vault.view_of c.lookup.new.self) (g.V.Vault.view_of c.create.new.self) c.in-Err-Failed.field-0-is c.in-Err-Failed.ensures.made)
+
+pub returns-in-Ok-clause-cleared : goal.returns-in-Ok-clause-cleared
+returns-in-Ok-clause-cleared g c =
+    truncated_clears _ c.truncate.result (g.V.Vault.view_of c.args.vault.now) (g.V.Vault.view_of c.lookup.new.self) (g.V.Vault.view_of c.truncate.new.self) c.args.name.now c.in-Ok-Some.field-0 c.in-Ok-Some.f c.in-Ok-Some.field-0-is c.in-Ok-Some.ensures.found c.in-Ok-Some.ensures.there c.in-Ok-Some.ensures.asked (ap is_ok c.in-Ok.is) c.truncate.ensures
+
+pub returns-in-Ok-create-clause-cleared : goal.returns-in-Ok-create-clause-cleared
+returns-in-Ok-create-clause-cleared g c =
+    created_clears _ (g.V.Vault.view_of c.args.vault.now) (g.V.Vault.view_of c.lookup.new.self) (g.V.Vault.view_of c.create.new.self) c.args.name.now c.in-Ok-None.field-0 c.in-Ok-create.f c.in-Ok-None.field-0-is c.in-Ok-None.ensures.found c.in-Ok-None.ensures.asked c.in-Ok-create.ensures.made

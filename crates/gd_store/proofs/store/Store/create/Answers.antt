@@ -6,7 +6,8 @@ use Rattle.gd_vault.specs.Frame.{OneFile, NoName}
 use Rattle.gd_vault.proofs.Within.{within_trans}
 use Rattle.gd_create.specs.NewFile.{new_file}
 use Rattle.gd_store.specs.declared.access.Access.TheVariants.{Writer}
-use Rattle.gd_store.specs.Opened.{Opened, Fits, IsNamed, OnFile, OpenedAs}
+use Rattle.gd_store.specs.Opened.{Opened, Fits, IsCleared, IsNamed, OnFile, OpenedAs}
+use Rattle.gd_store.proofs.Clearing.{made_cleared}
 use Rattle.gd_store.proofs.Frames.{within_more, stands_still}
 use Rattle.gd_store.proofs.News.{new_is_header, new_fits, new_native, made_bytes, made_file, empty_table}
 use Rattle.gd_store.proofs.store.Store.create.Goals as goal
@@ -61,3 +62,9 @@ returns-clause-frame g c =
     within_trans c.in_ok-file.ensures.frame
     (within_more (OneFile c.in_ok-file.file.0) (IsNamed (g.V.Vault.view_of c.args.vault.now) c.args.name.now) NoName (λ n. n ≡ c.args.name.now) (λ f same. subst (IsNamed (g.V.Vault.view_of c.args.vault.now) c.args.name.now) (sym same) c.in_ok-file.ensures.own) (λ n h. absurd h)
     (g.V.Vault.view_of c.emptied.new.vault) (g.V.Vault.view_of c.write_new.new.vault) c.in_ok-write_new.ensures.frame)
+
+pub returns-clause-cleared : goal.returns-clause-cleared
+returns-clause-cleared g c =
+    subst (λ (k : Opened). IsCleared (g.V.Vault.view_of c.args.vault.now) (g.V.Vault.view_of c.write_new.new.vault) c.args.name.now k.file (new_file c.args.format k.header.block k.header.dir_bits)) (sym c.in_ok-write_new.ensures.same)
+    (subst (λ (k : Format). IsCleared (g.V.Vault.view_of c.args.vault.now) (g.V.Vault.view_of c.write_new.new.vault) c.args.name.now c.in_ok-file.file.0 (new_file k c.new_header-header.result.block c.new_header-header.result.dir_bits)) c.new_header-header.ensures.format
+    (made_cleared (g.V.Vault.view_of c.args.vault.now) (g.V.Vault.view_of c.emptied.new.vault) (g.V.Vault.view_of c.write_new.new.vault) c.args.name.now c.in_ok-file.file.0 _ c.in_ok-file.ensures.cleared c.in_ok-write_new.ensures.frame c.in_ok-write_new.ensures.made))
