@@ -13,18 +13,18 @@ use Rattle.gd_format.specs.FreeSide.{FreeLists, StackBlock, IsFreeSide, free_ext
 use Rattle.gd_format.specs.HeaderFault.{header_of}
 use Rattle.gd_format.specs.Slots.{count, SameSlots}
 use Rattle.gd_format.specs.Sound.{IsSound, extent, table_of, top_of, most_of}
-use Rattle.gd_parts.proofs.Headers.{header_in}
-use Rattle.gd_parts.proofs.Points.{sound_parts}
-use Rattle.gd_laws.specs.Lookup.{index_of}
-use Rattle.gd_laws.specs.Space.{one_if, slot_has, block_has, free_of, free_in, all_cover}
-use Rattle.gd_laws.specs.Frame.{touched_of}
-use Rattle.gd_laws.specs.Change.{place_of, IsSoundFile}
-use Rattle.gd_laws.specs.Sounds.{pool_of, lists_of}
-use Rattle.gd_laws.specs.Sums.{slot_sizes, free_size}
-use Rattle.gd_laws.proofs.Lookup.{index_below}
-use Rattle.gd_laws.proofs.Sounds.{sound_blocks, has_side}
-use Rattle.gd_laws.proofs.Stays.{touched-le, bucket_in_all}
-use Rattle.gd_laws.proofs.WholeSplit.{file_is}
+use Rattle.gd_file_laws.proofs.Headers.{header_in}
+use Rattle.gd_file_laws.proofs.Points.{sound_parts}
+use Rattle.gd_map_laws.specs.Lookup.{index_of}
+use Rattle.gd_map_laws.specs.Space.{one_if, slot_has, block_has, free_of, free_in, all_cover}
+use Rattle.gd_map_laws.specs.Frame.{touched_of}
+use Rattle.gd_map_laws.specs.Change.{place_of, IsSoundFile}
+use Rattle.gd_map_laws.specs.Sounds.{pool_of, lists_of}
+use Rattle.gd_map_laws.specs.Sums.{slot_sizes, free_size}
+use Rattle.gd_map_laws.proofs.Lookup.{index_below}
+use Rattle.gd_map_laws.proofs.Sounds.{sound_blocks, has_side}
+use Rattle.gd_map_laws.proofs.Stays.{touched-le, bucket_in_all}
+use Rattle.gd_map_laws.proofs.WholeSplit.{file_is}
 use Rattle.gd_space.proofs.Stacks.{avail-extents, avail-next}
 use Rattle.gd_format.proofs.Covers.{cover-append, size_sum-append}
 use Rattle.gd_space.proofs.Tooks.{cover-side, size_sum-side}

@@ -17,13 +17,13 @@ use Rattle.gd_format.specs.HeaderFault.{header_of}
 use Rattle.gd_format.specs.Slots.{SameSlots, is_full, hash_in}
 use Rattle.gd_format.specs.Sound.{extent, table_of, most_of}
 use Rattle.gd_format.proofs.Firsts.{and-true}
-use Rattle.gd_laws.specs.Lookup.{index_of, lookup, slot_records, value_at}
-use Rattle.gd_laws.specs.Slots.{AreSlotsRight, is_bad, is_good, is_place_in, is_slot_key}
-use Rattle.gd_laws.specs.Space.{one_if}
-use Rattle.gd_laws.specs.Update.{pairs_of}
-use Rattle.gd_laws.proofs.Find.{present, fields_of_key, count_zero_at}
-use Rattle.gd_laws.proofs.Slots.{of_bucket, not_false}
-use Rattle.gd_laws.proofs.Stays.{has_in, within_ends}
+use Rattle.gd_map_laws.specs.Lookup.{index_of, lookup, slot_records, value_at}
+use Rattle.gd_map_laws.specs.Slots.{AreSlotsRight, is_bad, is_good, is_place_in, is_slot_key}
+use Rattle.gd_map_laws.specs.Space.{one_if}
+use Rattle.gd_map_laws.specs.Update.{pairs_of}
+use Rattle.gd_map_laws.proofs.Find.{present, fields_of_key, count_zero_at}
+use Rattle.gd_map_laws.proofs.Slots.{of_bucket, not_false}
+use Rattle.gd_map_laws.proofs.Stays.{has_in, within_ends}
 use Rattle.gd_bucket.proofs.Holes.{full_in}
 use Rattle.gd_space.specs.Calls.{free_lists}
 use Rattle.gd_space.specs.Effect.{Moves}

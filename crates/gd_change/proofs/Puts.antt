@@ -7,12 +7,12 @@ use Rattle.gd_format.specs.Sound.{extent}
 use Rattle.gd_format.specs.Covers.{has_byte}
 use Rattle.gd_format.proofs.Covers.{cover-split}
 use Rattle.gd_format.proofs.Pieces.{bytes_at-add}
-use Rattle.gd_parts.specs.Frame as parts
+use Rattle.gd_file_laws.specs.Frame as parts
 use Rattle.gd_vault.specs.Effects as vault
-use Rattle.gd_laws.specs.Space.{one_if}
-use Rattle.gd_laws.proofs.Stays.{keeps_join, write_keeps}
-use Rattle.gd_laws.proofs.Put.{written_reads, written_size}
-use Rattle.gd_laws.proofs.Change.{ends_by}
+use Rattle.gd_map_laws.specs.Space.{one_if}
+use Rattle.gd_map_laws.proofs.Stays.{keeps_join, write_keeps}
+use Rattle.gd_map_laws.proofs.Put.{written_reads, written_size}
+use Rattle.gd_map_laws.proofs.Change.{ends_by}
 use Rattle.gd_change.specs.Steps.{PutAt}
 
 pub same_written : (old : List ℕ) (at : ℕ) (bs : List ℕ) → vault.written old at bs ≡ parts.written old at bs

@@ -9,10 +9,10 @@ use Rattle.gd_format.specs.Covers.{cover, has_byte}
 use Rattle.gd_format.specs.FreeSide.{FreeLists, IsFreeSide, free_extents}
 use Rattle.gd_format.specs.Sound.{extent}
 use Rattle.gd_format.proofs.Covers.{cover-append}
-use Rattle.gd_laws.specs.Space.{one_if}
-use Rattle.gd_laws.specs.Frame.{KeepsBut}
-use Rattle.gd_laws.proofs.Side.{side_kept}
-use Rattle.gd_laws.proofs.Stays.{keeps_join}
+use Rattle.gd_map_laws.specs.Space.{one_if}
+use Rattle.gd_map_laws.specs.Frame.{KeepsBut}
+use Rattle.gd_map_laws.proofs.Side.{side_kept}
+use Rattle.gd_map_laws.proofs.Stays.{keeps_join}
 use Rattle.gd_space.specs.Effect.{Change, Keeps, Moves, TellsNone}
 use Rattle.gd_space.specs.SpaceLaws.{IsApart}
 use Rattle.gd_space.specs.declared.stack.SpaceError.{SpaceError}

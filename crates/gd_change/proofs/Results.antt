@@ -16,10 +16,10 @@ use Rattle.gd_format.specs.Hash.{hash_of}
 use Rattle.gd_format.specs.HeaderFault.{header_of}
 use Rattle.gd_format.specs.Slots.{SameSlots}
 use Rattle.gd_format.specs.Sound.{extent}
-use Rattle.gd_laws.specs.Change.{slot_made, RecordMade}
-use Rattle.gd_laws.specs.Maps.{pair_map}
-use Rattle.gd_laws.specs.Space.{one_if}
-use Rattle.gd_laws.proofs.Whole.{store_sound, delete_sound}
+use Rattle.gd_map_laws.specs.Change.{slot_made, RecordMade}
+use Rattle.gd_map_laws.specs.Maps.{pair_map}
+use Rattle.gd_map_laws.specs.Space.{one_if}
+use Rattle.gd_map_laws.proofs.Whole.{store_sound, delete_sound}
 use Rattle.gd_space.specs.Calls.{free_lists}
 use Rattle.gd_change.specs.Open.{IsOpen, IsHere}
 use Rattle.gd_change.specs.Steps.{RecordPut, GivenBack, BlocksPut}

@@ -16,29 +16,29 @@ use Rattle.gd_format.specs.Sound.{IsSound, extent, table_of, top_of, most_of, lo
 use Rattle.gd_format.proofs.Covers.{cover-append, size_sum-append}
 use Rattle.gd_layout.specs.Fits.{IsHeaderOf}
 use Rattle.gd_layout.proofs.HeaderFields as fields
-use Rattle.gd_parts.specs.Frame as parts
-use Rattle.gd_parts.proofs.Points.{sound_parts}
+use Rattle.gd_file_laws.specs.Frame as parts
+use Rattle.gd_file_laws.proofs.Points.{sound_parts}
 use Rattle.gd_format.specs.Hash.{hash_of}
-use Rattle.gd_laws.specs.Lookup.{index_of, slot_records, value_at}
-use Rattle.gd_laws.specs.Space.{one_if, slot_has, block_has, free_of, free_in}
-use Rattle.gd_laws.specs.Space as laws
-use Rattle.gd_laws.specs.Frame.{KeepsBut, Stays}
-use Rattle.gd_laws.specs.Fronts.{FrontRead}
-use Rattle.gd_laws.specs.Update.{IsSameShape, pairs_of}
-use Rattle.gd_laws.specs.Change.{place_of, IsSoundFile, BucketMade, SpaceMade, ChangeMade}
-use Rattle.gd_laws.specs.Sounds.{pool_of, lists_of}
-use Rattle.gd_laws.specs.Sums.{slot_sizes, free_size}
-use Rattle.gd_laws.specs.Whole.{ChangeWritten}
-use Rattle.gd_laws.specs.Writes.{LastWrites, WritesRead}
-use Rattle.gd_laws.proofs.Stays.{keeps_join, has_in, write_keeps}
-use Rattle.gd_laws.proofs.Change.{ends_by, still}
-use Rattle.gd_laws.proofs.FileUpdate.{entry_shape, block_shape}
-use Rattle.gd_laws.proofs.Find.{grown-add, grown_is_extent}
-use Rattle.gd_laws.proofs.Fronts.{front_read}
-use Rattle.gd_laws.proofs.Side.{side_kept}
-use Rattle.gd_laws.proofs.Sounds.{stack_pool}
-use Rattle.gd_laws.proofs.Sums.{lost_changes}
-use Rattle.gd_laws.proofs.Writes.{writes_read}
+use Rattle.gd_map_laws.specs.Lookup.{index_of, slot_records, value_at}
+use Rattle.gd_map_laws.specs.Space.{one_if, slot_has, block_has, free_of, free_in}
+use Rattle.gd_map_laws.specs.Space as laws
+use Rattle.gd_map_laws.specs.Frame.{KeepsBut, Stays}
+use Rattle.gd_map_laws.specs.Fronts.{FrontRead}
+use Rattle.gd_map_laws.specs.Update.{IsSameShape, pairs_of}
+use Rattle.gd_map_laws.specs.Change.{place_of, IsSoundFile, BucketMade, SpaceMade, ChangeMade}
+use Rattle.gd_map_laws.specs.Sounds.{pool_of, lists_of}
+use Rattle.gd_map_laws.specs.Sums.{slot_sizes, free_size}
+use Rattle.gd_map_laws.specs.Whole.{ChangeWritten}
+use Rattle.gd_map_laws.specs.Writes.{LastWrites, WritesRead}
+use Rattle.gd_map_laws.proofs.Stays.{keeps_join, has_in, write_keeps}
+use Rattle.gd_map_laws.proofs.Change.{ends_by, still}
+use Rattle.gd_map_laws.proofs.FileUpdate.{entry_shape, block_shape}
+use Rattle.gd_map_laws.proofs.Find.{grown-add, grown_is_extent}
+use Rattle.gd_map_laws.proofs.Fronts.{front_read}
+use Rattle.gd_map_laws.proofs.Side.{side_kept}
+use Rattle.gd_map_laws.proofs.Sounds.{stack_pool}
+use Rattle.gd_map_laws.proofs.Sums.{lost_changes}
+use Rattle.gd_map_laws.proofs.Writes.{writes_read}
 use Rattle.gd_space.specs.Calls.{free_lists}
 use Rattle.gd_space.specs.Effect.{Keeps, Moves}
 use Rattle.gd_space.specs.Effect as effect

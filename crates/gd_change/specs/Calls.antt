@@ -8,7 +8,7 @@ use Rattle.gd_format.specs.declared.Slot.{Slot}
 use Rattle.gd_format.specs.Avail.{Avail}
 use Rattle.gd_format.specs.Bucket.{Bucket}
 use Rattle.gd_format.specs.FreeSide.{FreeLists, StackBlock, IsFreeSide, free_extents}
-use Rattle.gd_laws.specs.Maps.{PairMap}
+use Rattle.gd_map_laws.specs.Maps.{PairMap}
 use Rattle.gd_space.specs.Calls.{free_lists}
 use Rattle.gd_space.specs.declared.stack.SpaceError.{SpaceError}
 use Rattle.gd_space.specs.declared.stack.SpaceError.TheVariants.{VaultFault, FileFull, BadAvail, OutOfMemory}

@@ -12,11 +12,11 @@ use Rattle.gd_format.specs.FreeSide.{FreeLists, StackBlock, IsFreeSide, stack_ex
 use Rattle.gd_format.specs.Hash.{hash_of}
 use Rattle.gd_format.specs.Slots.{AreReached}
 use Rattle.gd_format.specs.Sound.{lost_total}
-use Rattle.gd_laws.specs.Change.{slot_made}
-use Rattle.gd_laws.specs.Lookup.{slot_records, index_of, value_at}
-use Rattle.gd_laws.specs.Maps.{PairMap, pair_map}
-use Rattle.gd_laws.specs.Sounds.{pool_of}
-use Rattle.gd_laws.specs.Update.{pairs_of}
+use Rattle.gd_map_laws.specs.Change.{slot_made}
+use Rattle.gd_map_laws.specs.Lookup.{slot_records, index_of, value_at}
+use Rattle.gd_map_laws.specs.Maps.{PairMap, pair_map}
+use Rattle.gd_map_laws.specs.Sounds.{pool_of}
+use Rattle.gd_map_laws.specs.Update.{pairs_of}
 use Rattle.gd_space.specs.Calls.{free_lists}
 use Rattle.gd_change.specs.Open.{IsOpen, IsHere}
 use Rattle.gd_change.specs.Steps.{RecordPut, GivenBack, BlocksPut, SlotsMade}

@@ -10,8 +10,8 @@ use Rattle.gd_format.specs.Bucket.{Bucket, bucket_at}
 use Rattle.gd_format.specs.File.{front_of}
 use Rattle.gd_format.specs.HeaderFault.{header_of}
 use Rattle.gd_format.specs.Sound.{IsSound, extent, most_of, table_of}
-use Rattle.gd_laws.specs.Lookup.{lookup, slot_records, index_of}
-use Rattle.gd_laws.specs.Change.{place_of}
+use Rattle.gd_map_laws.specs.Lookup.{lookup, slot_records, index_of}
+use Rattle.gd_map_laws.specs.Change.{place_of}
 use Rattle.gd_space.specs.Effect.{CanBeGiven, give_growth}
 
 -- the file is sound, and it has this header and this table of free space

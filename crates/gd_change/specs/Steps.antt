@@ -12,8 +12,8 @@ use Rattle.gd_format.specs.HeaderFault.{header_of, header_fault_of, is_within}
 use Rattle.gd_format.specs.Slots.{SameSlots}
 use Rattle.gd_format.specs.Sound.{extent, table_of}
 use Rattle.gd_layout.specs.Fits.{IsHeaderOf}
-use Rattle.gd_laws.specs.Frame.{KeepsBut}
-use Rattle.gd_laws.specs.Space.{one_if}
+use Rattle.gd_map_laws.specs.Frame.{KeepsBut}
+use Rattle.gd_map_laws.specs.Space.{one_if}
 use Rattle.gd_space.specs.Effect.{Keeps, Moves}
 use Rattle.gd_change.specs.Open.{slot_extents}
 use Rattle.gd_vault.specs.Effects.{written}

@@ -10,7 +10,7 @@ ghost use Rattle.gd_format.specs.Headers.{IsHeader};
 ghost use Rattle.gd_format.specs.declared.Slot.TheVariants.{Empty};
 ghost use Rattle.gd_format.specs.Slots.{count, is_full};
 ghost use Rattle.gd_layout.specs.Fits.{FitsHeader};
-ghost use Rattle.gd_laws.specs.Maps.{pair_map};
+ghost use Rattle.gd_map_laws.specs.Maps.{pair_map};
 ghost use Rattle.gd_space.specs.Effect.{WritesAtMost, TellsNone};
 ghost use Rattle.gd_space.specs.Calls.{OnTable, growth_of};
 ghost use Rattle.gd_vault.specs.Content.{File};

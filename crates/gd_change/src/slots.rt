@@ -5,7 +5,7 @@ ghost use Rattle.gd_format.specs.Hash.{hash_of};
 ghost use Rattle.gd_format.specs.Slots.{count, hash_in, is_full, AreReached, SameSlots};
 ghost use Rattle.gd_format.specs.Sound.{extent};
 ghost use Rattle.gd_layout.specs.Fits.{FitsFields};
-ghost use Rattle.gd_laws.specs.Change.{slot_made};
+ghost use Rattle.gd_map_laws.specs.Change.{slot_made};
 ghost use Rattle.gd_change.specs.Open.{slot_size, slot_extents};
 ghost use Rattle.gd_change.specs.Steps.{SlotsMade};
 ghost use Rattle.gd_change.specs.Starts.{start_of};

@@ -14,11 +14,11 @@ use Rattle.gd_format.specs.File.{front_of, entry_at}
 use Rattle.gd_format.specs.Sound.{extent, place_of, table_of, is_free_right}
 use Rattle.gd_format.specs.Covers.{has_byte, cover}
 use Rattle.gd_layout.proofs.PutHeaders.{IsWritten, written-front, header_reads, no_fault}
-use Rattle.gd_parts.specs.Parts.{file_header}
-use Rattle.gd_parts.proofs.Frame.{bytes_at-front, bytes_at-back}
-use Rattle.gd_laws.specs.Space.{one_if}
-use Rattle.gd_laws.specs.NewFile.{new_cover, IsNewFile}
-use Rattle.gd_laws.proofs.NewFile.{new_sound}
+use Rattle.gd_file_laws.specs.Parts.{file_header}
+use Rattle.gd_file_laws.proofs.Frame.{bytes_at-front, bytes_at-back}
+use Rattle.gd_map_laws.specs.Space.{one_if}
+use Rattle.gd_map_laws.specs.NewFile.{new_cover, IsNewFile}
+use Rattle.gd_map_laws.proofs.NewFile.{new_sound}
 use Rattle.gd_create.specs.NewFile.{IsNewBlock, new_header, header_bytes, dir_bytes, bucket_bytes, new_file}
 use Rattle.gd_create.specs.Laws.{IsNew}
 use Rattle.gd_create.proofs.Powers.{bounds, is_header_of, fits}

@@ -7,7 +7,7 @@ use Rattle.byteorder.specs.Endian.{little_bytes}
 use Rattle.byteorder.specs.Numbers.{length-bytes_low_first, little_number-reads_back}
 use Rattle.gd_format.specs.Field.{number_of, bytes_at}
 use Rattle.gd_layout.proofs.Numbers.{little_from-number_of}
-use Rattle.gd_parts.proofs.Frame.{bytes_at-front, bytes_at-back}
+use Rattle.gd_file_laws.proofs.Frame.{bytes_at-front, bytes_at-back}
 use Rattle.gd_create.specs.NewFile.{repeated}
 
 back : (n x : ℕ) → x < 256 ^ n → number_of (little_bytes n x) ≡ x

@@ -17,10 +17,10 @@ use Rattle.gd_format.specs.File.{bits_at, is_full_at, is_count_right}
 use Rattle.gd_format.specs.Slots.{count, is_full}
 use Rattle.gd_format.specs.Sound.{extent}
 use Rattle.gd_format.proofs.Firsts.{all_below_from, both_true}
-use Rattle.gd_laws.specs.Space.{free_in}
+use Rattle.gd_map_laws.specs.Space.{free_in}
 use Rattle.gd_layout.proofs.Pieces.{i32_is, i64_is}
 use Rattle.gd_layout.proofs.Written.{full_below}
-use Rattle.gd_parts.proofs.Frame.{bytes_at-front, bytes_at-back}
+use Rattle.gd_file_laws.proofs.Frame.{bytes_at-front, bytes_at-back}
 use Rattle.gd_create.specs.NewFile.{IsNewBlock, zeros, repeated, slot_bytes, dir_bytes, bucket_bytes}
 use Rattle.gd_create.proofs.Numbers.{back_4, back_8, length-repeated, repeated-at}
 use Rattle.gd_create.proofs.Powers.{bounds}

@@ -9,8 +9,8 @@ use Rattle.gd_format.specs.declared.Slot.TheVariants.{Empty}
 use Rattle.gd_format.specs.File.{entry_at, entries_of, records}
 use Rattle.gd_format.specs.Sound.{IsSound, extent, table_of}
 use Rattle.gd_format.specs.Headers.{IsHeader}
-use Rattle.gd_parts.specs.Parts.{file_header}
-use Rattle.gd_laws.specs.NewFile.{IsNewFile}
+use Rattle.gd_file_laws.specs.Parts.{file_header}
+use Rattle.gd_map_laws.specs.NewFile.{IsNewFile}
 use Rattle.gd_layout.specs.Fits.{FitsHeader}
 use Rattle.gd_create.specs.NewFile.{IsNewBlock, new_header, new_file}
 

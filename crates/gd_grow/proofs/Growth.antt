@@ -12,16 +12,16 @@ use Rattle.gd_format.specs.FreeSide.{FreeLists, StackBlock, free_extents}
 use Rattle.gd_format.specs.Slots.{count, is_full}
 use Rattle.gd_format.specs.Sound.{IsSound, extent, most_of, table_of}
 use Rattle.gd_format.specs.Covers.{has_byte}
-use Rattle.gd_parts.specs.Parts.{file_header}
-use Rattle.gd_parts.specs.Frame.{written}
-use Rattle.gd_parts.proofs.Made.{bits_within}
-use Rattle.gd_laws.specs.Frame.{KeepsBut}
-use Rattle.gd_laws.specs.Lookup.{value_at}
-use Rattle.gd_laws.specs.Overflow.{is_close}
-use Rattle.gd_laws.specs.Space.{one_if, all_cover}
-use Rattle.gd_laws.proofs.Overflow.{full_has_bits}
-use Rattle.gd_laws.proofs.Slots.{of_bucket}
-use Rattle.gd_laws.proofs.Stays.{has_in, bucket_in_all, block_counts, within_ends, write_keeps}
+use Rattle.gd_file_laws.specs.Parts.{file_header}
+use Rattle.gd_file_laws.specs.Frame.{written}
+use Rattle.gd_file_laws.proofs.Made.{bits_within}
+use Rattle.gd_map_laws.specs.Frame.{KeepsBut}
+use Rattle.gd_map_laws.specs.Lookup.{value_at}
+use Rattle.gd_map_laws.specs.Overflow.{is_close}
+use Rattle.gd_map_laws.specs.Space.{one_if, all_cover}
+use Rattle.gd_map_laws.proofs.Overflow.{full_has_bits}
+use Rattle.gd_map_laws.proofs.Slots.{of_bucket}
+use Rattle.gd_map_laws.proofs.Stays.{has_in, bucket_in_all, block_counts, within_ends, write_keeps}
 use Rattle.gd_space.specs.Calls.{free_lists}
 use Rattle.gd_split.specs.Held.{IsHeld, IsBucketOf, index_at}
 use Rattle.gd_split.specs.Steps.{IsStep}

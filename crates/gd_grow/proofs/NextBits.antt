@@ -6,7 +6,7 @@ use Rattle.gd_format.specs.declared.Slot.TheVariants.{Empty}
 use Rattle.gd_format.specs.declared.Header.{Header}
 use Rattle.gd_format.specs.Bucket.{Bucket}
 use Rattle.gd_format.specs.Slots.{count, SameSlots}
-use Rattle.gd_laws.proofs.Lists.{count-append}
+use Rattle.gd_map_laws.proofs.Lists.{count-append}
 use Rattle.gd_split.specs.Held.{IsBucketOf}
 use Rattle.gd_split.specs.Halves.{next_bit}
 use Rattle.gd_split.specs.Steps.{IsNext}

@@ -8,7 +8,7 @@ use Rattle.gd_format.specs.Headers.{IsHeader}
 use Rattle.gd_format.specs.HeaderFault.{dir_size_of}
 use Rattle.gd_format.specs.Slots.{count}
 use Rattle.gd_layout.specs.Fits.{FitsHeader}
-use Rattle.gd_laws.specs.Overflow.{is_close}
+use Rattle.gd_map_laws.specs.Overflow.{is_close}
 use Rattle.gd_space.specs.Effect.{WritesAtMost, TellsNone}
 use Rattle.gd_space.specs.Held.{HeldSpace}
 use Rattle.gd_space.proofs.Dones.{tells_none}

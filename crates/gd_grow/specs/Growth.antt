@@ -7,10 +7,10 @@ use Rattle.gd_format.specs.Bucket.{Bucket}
 use Rattle.gd_format.specs.File.{records}
 use Rattle.gd_format.specs.FreeSide.{StackBlock, free_extents}
 use Rattle.gd_format.specs.Sound.{lost_total}
-use Rattle.gd_parts.specs.Frame.{written}
-use Rattle.gd_parts.specs.Parts.{file_header}
-use Rattle.gd_laws.specs.Lookup.{value_at}
-use Rattle.gd_laws.specs.Maps.{pair_map}
+use Rattle.gd_file_laws.specs.Frame.{written}
+use Rattle.gd_file_laws.specs.Parts.{file_header}
+use Rattle.gd_map_laws.specs.Lookup.{value_at}
+use Rattle.gd_map_laws.specs.Maps.{pair_map}
 use Rattle.gd_space.specs.Calls.{free_lists}
 use Rattle.gd_vault.specs.Content.{File, Content}
 use Rattle.gd_vault.specs.Views.{View, content_of}

@@ -6,7 +6,7 @@ use Rattle.gd_format.specs.Bucket.{Bucket}
 use Rattle.gd_format.specs.FreeSide.{FreeLists}
 use Rattle.gd_format.specs.Slots.{count, is_full}
 use Rattle.gd_format.specs.Sound.{IsSound, most_of}
-use Rattle.gd_laws.specs.Overflow.{is_close}
+use Rattle.gd_map_laws.specs.Overflow.{is_close}
 use Rattle.gd_split.specs.Held.{IsHeld, IsBucketOf}
 use Rattle.gd_change.specs.Open.{IsOpen}
 use Rattle.gd_grow.specs.Growth.{IsGrown, IsClosed, IsRoomMade}

@@ -9,7 +9,7 @@ ghost use Rattle.gd_format.specs.HeaderFault.{dir_size_of, is_native};
 ghost use Rattle.gd_format.specs.Slots.{count, is_full};
 ghost use Rattle.gd_format.specs.Sound.{most_of};
 ghost use Rattle.gd_layout.specs.Fits.{FitsHeader};
-ghost use Rattle.gd_laws.specs.Overflow.{is_close};
+ghost use Rattle.gd_map_laws.specs.Overflow.{is_close};
 ghost use Rattle.gd_space.specs.Effect.{WritesAtMost, TellsNone};
 ghost use Rattle.gd_split.specs.Held.{HasBucket};
 ghost use Rattle.gd_split.specs.Turns.{Turns};

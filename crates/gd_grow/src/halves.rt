@@ -2,7 +2,7 @@
 
 ghost use Rattle.std.specs.Prelude.{◌≡◌, ◌+◌, ◌^◌, ◌<◌, ◌≤◌, ◌/◌, ◌%◌, true, false, length};
 ghost use Rattle.gd_format.specs.Slots.{count, is_full};
-ghost use Rattle.gd_laws.specs.Overflow.{is_close};
+ghost use Rattle.gd_map_laws.specs.Overflow.{is_close};
 ghost use Rattle.gd_split.specs.Halves.{AreHalves, next_bit};
 
 use gd_layout::{Bucket, full_count};

@@ -7,7 +7,7 @@ ghost use Rattle.gd_format.specs.Headers.{IsHeader};
 ghost use Rattle.gd_format.specs.HeaderFault.{dir_size_of};
 ghost use Rattle.gd_format.specs.Slots.{count, is_full};
 ghost use Rattle.gd_layout.specs.Fits.{FitsHeader};
-ghost use Rattle.gd_laws.specs.Overflow.{is_close};
+ghost use Rattle.gd_map_laws.specs.Overflow.{is_close};
 ghost use Rattle.gd_space.specs.Effect.{WritesAtMost, TellsNone};
 ghost use Rattle.gd_split.specs.Held.{Holds, IsBucketOf, HasBucket};
 ghost use Rattle.gd_split.specs.Steps.{Steps};

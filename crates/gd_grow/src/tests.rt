@@ -3,7 +3,7 @@
 ghost use Rattle.std.specs.Prelude.{◌≡◌, ◌<◌, ◌≤◌, ◌^◌, pos, length};
 ghost use Rattle.gd_format.specs.HeaderFault.{is_block_size};
 ghost use Rattle.gd_format.specs.Slots.{count};
-ghost use Rattle.gd_laws.specs.Overflow.{is_close};
+ghost use Rattle.gd_map_laws.specs.Overflow.{is_close};
 
 use crate::make_room;
 use crate::small_vault::SmallVault;
@@ -40,7 +40,7 @@ fn is_block(n: u32) -> bool
 }
 
 // Has a full slot a hash with the first 24 bits of this one?
-#[tactic(auto, unfolding(gd_laws::specs::Overflow::have_top))]
+#[tactic(auto, unfolding(gd_map_laws::specs::Overflow::have_top))]
 fn is_near(slot: &Slot, hash: u32) -> bool
     ensures { result ≡ is_close hash slot.now }
 {

@@ -4,7 +4,7 @@ use Rattle.std.specs.Prelude.{pos, nat_le, Result, Ok, Err, IfOk}
 use Rattle.std.proofs.lemmas.Nat.{shr_below}
 use Rattle.gd_base.specs.declared.errors.DbError.{DbError}
 use Rattle.gd_vault.specs.Views.{View}
-use Rattle.gd_verify.specs.Asks.{bytes_in, kept_of, Tells}
+use Rattle.gd_readable.specs.Asks.{bytes_in, kept_of, Tells}
 use Rattle.std.proofs.lemmas.Bool.{leb-true}
 use Rattle.gd_format.specs.declared.Header.{Header}
 use Rattle.gd_format.specs.Field.{bytes_at, i64_at}
@@ -14,14 +14,14 @@ use Rattle.gd_format.specs.Bucket.{Bucket, bucket_at, is_bucket}
 use Rattle.gd_format.specs.File.{dir_fault, entries_of, entry_at, block_of, run_at}
 use Rattle.gd_format.proofs.Firsts.{and-true, length-list_below}
 use Rattle.gd_format.proofs.Pieces.{i64_at_front}
-use Rattle.gd_parts.specs.Parts.{HasParts}
-use Rattle.gd_parts.specs.Sizes.{IsHeaderIn}
-use Rattle.gd_parts.proofs.Headers.{header_in}
-use Rattle.gd_parts.proofs.Walk.{readable}
-use Rattle.gd_laws.proofs.FileUpdate.{fields_of}
-use Rattle.gd_verify.specs.Standing.{place_of}
-use Rattle.gd_verify.proofs.Places.{place_is}
-use Rattle.gd_verify.proofs.Walks.{bucket_place, dir_none}
+use Rattle.gd_file_laws.specs.Parts.{HasParts}
+use Rattle.gd_file_laws.specs.Sizes.{IsHeaderIn}
+use Rattle.gd_file_laws.proofs.Headers.{header_in}
+use Rattle.gd_file_laws.proofs.Walk.{readable}
+use Rattle.gd_map_laws.proofs.FileUpdate.{fields_of}
+use Rattle.gd_readable.specs.Standing.{place_of}
+use Rattle.gd_readable.proofs.Places.{place_is}
+use Rattle.gd_readable.proofs.Walks.{bucket_place, dir_none}
 use Rattle.gd_lookup.specs.Counting.{IsBlock}
 use Rattle.gd_lookup.specs.Open.{AtFile, IsOpen}
 use Rattle.gd_lookup.specs.Reading.{IsBucketPlace}

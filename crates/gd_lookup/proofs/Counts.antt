@@ -10,8 +10,8 @@ use Rattle.gd_format.specs.First.{count_below}
 use Rattle.gd_format.specs.HeaderFault.{is_number, is_within, natural}
 use Rattle.gd_format.specs.File.{are_counts_right, block_of, entries_of, entry_at, is_count_right, is_first, is_full_at, records, run_at}
 use Rattle.gd_format.proofs.Firsts.{and-true}
-use Rattle.gd_laws.specs.Space.{sum_of}
-use Rattle.gd_laws.proofs.Fronts.{records_count}
+use Rattle.gd_map_laws.specs.Space.{sum_of}
+use Rattle.gd_map_laws.proofs.Fronts.{records_count}
 use Rattle.gd_lookup.specs.Counting.{Begins, have_share, run_of}
 use Rattle.gd_lookup.specs.Open.{IsOpen}
 use Rattle.gd_lookup.proofs.Blocks.{open_dir, open_parts}

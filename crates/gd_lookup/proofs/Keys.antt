@@ -19,18 +19,18 @@ use Rattle.gd_format.proofs.Firsts.{length-list_below, and-true}
 use Rattle.gd_bucket.specs.Probing.{slot_after, is_candidate, IsNextCandidate, HasNoCandidate}
 use Rattle.gd_bucket.specs.Map.{slot_with, IsKeyTest}
 use Rattle.gd_bucket.proofs.Maps as maps
-use Rattle.gd_parts.specs.Parts.{file_header}
-use Rattle.gd_parts.proofs.Headers.{header_in}
-use Rattle.gd_parts.proofs.Lists.{bool_cases}
-use Rattle.gd_parts.proofs.Walk.{readable}
-use Rattle.gd_laws.specs.Find.{is_slot_of}
-use Rattle.gd_laws.specs.Lookup.{lookup, slot_records, index_of, value_at}
-use Rattle.gd_laws.specs.Maps.{pair_map}
-use Rattle.gd_laws.specs.Slots.{is_good, is_bad, is_place_in, AreSlotsRight}
-use Rattle.gd_laws.proofs.Find.{absent_by_count, count_zero_at, fields_of_key, key_once, present}
-use Rattle.gd_laws.proofs.Lookup.{index_below, lookup_exact}
-use Rattle.gd_laws.proofs.Maps.{by_lookup}
-use Rattle.gd_laws.proofs.Slots.{not_false, of_bucket}
+use Rattle.gd_file_laws.specs.Parts.{file_header}
+use Rattle.gd_file_laws.proofs.Headers.{header_in}
+use Rattle.gd_file_laws.proofs.Lists.{bool_cases}
+use Rattle.gd_file_laws.proofs.Walk.{readable}
+use Rattle.gd_map_laws.specs.Find.{is_slot_of}
+use Rattle.gd_map_laws.specs.Lookup.{lookup, slot_records, index_of, value_at}
+use Rattle.gd_map_laws.specs.Maps.{pair_map}
+use Rattle.gd_map_laws.specs.Slots.{is_good, is_bad, is_place_in, AreSlotsRight}
+use Rattle.gd_map_laws.proofs.Find.{absent_by_count, count_zero_at, fields_of_key, key_once, present}
+use Rattle.gd_map_laws.proofs.Lookup.{index_below, lookup_exact}
+use Rattle.gd_map_laws.proofs.Maps.{by_lookup}
+use Rattle.gd_map_laws.proofs.Slots.{not_false, of_bucket}
 use Rattle.gd_lookup.specs.Finding.{IsKeyBucket, IsKeySlot, IsKeyAbsent}
 use Rattle.gd_lookup.specs.Open.{IsOpen}
 use Rattle.gd_lookup.specs.Reading.{LiesIn, value_in}

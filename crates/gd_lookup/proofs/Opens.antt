@@ -4,13 +4,13 @@ use Rattle.std.specs.Prelude.{option_map, Result, Ok, Err, IfOk, IfSome, IfNone}
 use Rattle.gd_base.specs.declared.errors.DbError.{DbError}
 use Rattle.gd_base.specs.declared.errors.DbError.TheVariants.{BadDirEntry, BadBucket, BadHashEntry, OutOfMemory}
 use Rattle.gd_format.specs.declared.Header.{Header}
-use Rattle.gd_verify.specs.declared.reading.Stopped.{Stopped}
-use Rattle.gd_verify.specs.declared.reading.Stopped.TheVariants.{Fault, NoMemory}
+use Rattle.gd_readable.specs.declared.reading.Stopped.{Stopped}
+use Rattle.gd_readable.specs.declared.reading.Stopped.TheVariants.{Fault, NoMemory}
 use Rattle.gd_vault.specs.Content.{File, Content}
 use Rattle.gd_vault.specs.Views.{View, content_of, HasFile, OnlyAsks}
-use Rattle.gd_verify.specs.Asks.{Kept, kept_of, bytes_in, file_in, Tells, IsCause, error_of}
-use Rattle.gd_verify.proofs.Asks.{bytes_told}
-use Rattle.gd_verify.proofs.Refusals.{refuses_map}
+use Rattle.gd_readable.specs.Asks.{Kept, kept_of, bytes_in, file_in, Tells, IsCause, error_of}
+use Rattle.gd_readable.proofs.Asks.{bytes_told}
+use Rattle.gd_readable.proofs.Refusals.{refuses_map}
 use Rattle.gd_lookup.specs.Open.{AtFile, IsOpen, OfFile}
 use Rattle.gd_lookup.specs.Reading.{IsRefused, RefusesRead}
 

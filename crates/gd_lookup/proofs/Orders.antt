@@ -11,17 +11,17 @@ use Rattle.gd_format.specs.HeaderFault.{natural}
 use Rattle.gd_format.specs.Bucket.{Bucket, bucket_at, counts_at, is_empty_hash, raw_slot_at, slot_of, slots_at}
 use Rattle.gd_format.specs.File.{are_fields_right, block_of, entries_of, entry_at, is_first, run_at, is_full_at, is_record_in, key_of, record_of, records, value_of}
 use Rattle.gd_format.specs.Slots.{count}
-use Rattle.gd_parts.proofs.Lists.{bool_cases}
-use Rattle.gd_laws.specs.Find.{is_slot_of}
-use Rattle.gd_laws.specs.Lookup.{has_key, lookup}
-use Rattle.gd_laws.specs.Maps.{pair_map}
-use Rattle.gd_laws.proofs.Lists.{count-append}
-use Rattle.gd_laws.proofs.Lookup.{records_once}
-use Rattle.gd_laws.proofs.Maps.{by_lookup}
-use Rattle.gd_laws.proofs.Slots.{get_or-list_below}
-use Rattle.gd_verify.specs.Left.{buckets_left, passing_from, slots_left}
-use Rattle.gd_verify.proofs.Passing.{buckets_none, passing_end, slots_none, slots_step}
-use Rattle.gd_verify.proofs.Walks.{fields_in, record_in}
+use Rattle.gd_file_laws.proofs.Lists.{bool_cases}
+use Rattle.gd_map_laws.specs.Find.{is_slot_of}
+use Rattle.gd_map_laws.specs.Lookup.{has_key, lookup}
+use Rattle.gd_map_laws.specs.Maps.{pair_map}
+use Rattle.gd_map_laws.proofs.Lists.{count-append}
+use Rattle.gd_map_laws.proofs.Lookup.{records_once}
+use Rattle.gd_map_laws.proofs.Maps.{by_lookup}
+use Rattle.gd_map_laws.proofs.Slots.{get_or-list_below}
+use Rattle.gd_readable.specs.Left.{buckets_left, passing_from, slots_left}
+use Rattle.gd_readable.proofs.Passing.{buckets_none, passing_end, slots_none, slots_step}
+use Rattle.gd_readable.proofs.Walks.{fields_in, record_in}
 use Rattle.gd_lookup.specs.Counting.{behind, have_share, run_of, Begins, IsBlock}
 use Rattle.gd_lookup.specs.declared.Successor.TheVariants.{Absent}
 use Rattle.gd_lookup.specs.Open.{IsOpen}

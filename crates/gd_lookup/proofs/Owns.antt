@@ -10,7 +10,7 @@ use Rattle.gd_format.specs.declared.Slot.TheVariants.{Full}
 use Rattle.gd_format.specs.Field.{bytes_at}
 use Rattle.gd_format.proofs.Firsts.{and-true}
 use Rattle.gd_format.proofs.Pieces.{bytes_at-add, take-add}
-use Rattle.gd_parts.proofs.Lists.{bool_cases}
+use Rattle.gd_file_laws.proofs.Lists.{bool_cases}
 use Rattle.gd_bucket.specs.Probing.{is_candidate}
 use Rattle.gd_lookup.specs.Reading.{LiesIn}
 

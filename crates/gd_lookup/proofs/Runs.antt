@@ -13,14 +13,14 @@ use Rattle.gd_format.specs.Bucket.{raw_slot_at}
 use Rattle.gd_format.specs.HeaderFault.{natural}
 use Rattle.gd_format.specs.File.{are_counts_right, bits_at, is_block_in, run_fault, slots_fault, block_of, bucket_records, dir_fault, entries_fault, entries_of, entry_at, entry_fault, is_first, is_full_at, record_of, records, run_at}
 use Rattle.gd_format.proofs.Firsts.{or_else-none, unless-none}
-use Rattle.gd_parts.specs.Parts.{HasParts}
-use Rattle.gd_parts.proofs.Lists.{bool_cases}
-use Rattle.gd_parts.proofs.Made.{bits_within}
-use Rattle.gd_laws.specs.Space.{sum_of}
-use Rattle.gd_verify.specs.Left.{buckets_left, passing_from, slots_left}
-use Rattle.gd_verify.proofs.Passing.{buckets_step, no_slots, passing_no, passing_yes, slots_step, starts_whole}
-use Rattle.gd_verify.proofs.Runs.{run_ends}
-use Rattle.gd_verify.proofs.Walks.{not_first, starts}
+use Rattle.gd_file_laws.specs.Parts.{HasParts}
+use Rattle.gd_file_laws.proofs.Lists.{bool_cases}
+use Rattle.gd_file_laws.proofs.Made.{bits_within}
+use Rattle.gd_map_laws.specs.Space.{sum_of}
+use Rattle.gd_readable.specs.Left.{buckets_left, passing_from, slots_left}
+use Rattle.gd_readable.proofs.Passing.{buckets_step, no_slots, passing_no, passing_yes, slots_step, starts_whole}
+use Rattle.gd_readable.proofs.Runs.{run_ends}
+use Rattle.gd_readable.proofs.Walks.{not_first, starts}
 use Rattle.gd_lookup.specs.Counting.{Begins, behind}
 use Rattle.gd_lookup.specs.Open.{IsOpen}
 use Rattle.gd_lookup.proofs.Blocks.{open_dir, open_parts}

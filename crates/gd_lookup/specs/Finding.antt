@@ -11,10 +11,10 @@ use Rattle.gd_format.specs.Bucket.{Bucket, bucket_at, slots_at}
 use Rattle.gd_format.specs.File.{file_fault, entry_at, block_of, records}
 use Rattle.gd_format.specs.Slots.{count, is_full}
 use Rattle.gd_bucket.specs.Probing.{is_candidate}
-use Rattle.gd_parts.specs.Parts.{file_header}
-use Rattle.gd_laws.specs.Lookup.{index_of}
-use Rattle.gd_laws.specs.Find.{is_slot_of}
-use Rattle.gd_laws.specs.Maps.{pair_map}
+use Rattle.gd_file_laws.specs.Parts.{file_header}
+use Rattle.gd_map_laws.specs.Lookup.{index_of}
+use Rattle.gd_map_laws.specs.Find.{is_slot_of}
+use Rattle.gd_map_laws.specs.Maps.{pair_map}
 use Rattle.gd_vault.specs.Views.{View}
 use Rattle.gd_lookup.specs.Open.{AtFile, IsOpen}
 use Rattle.gd_lookup.specs.Reading.{LiesIn, value_in}

@@ -10,7 +10,7 @@ use Rattle.gd_format.specs.Field.{bytes_at}
 use Rattle.gd_format.specs.HeaderFault.{natural}
 use Rattle.gd_format.specs.File.{entries_of, entry_at}
 use Rattle.gd_vault.specs.Views.{View}
-use Rattle.gd_verify.specs.Asks.{Kept, bytes_in, Refuses, RefusesWalk}
+use Rattle.gd_readable.specs.Asks.{Kept, bytes_in, Refuses, RefusesWalk}
 
 -- the errors of reads
 abbrev pub is_of_read : DbError → Bool

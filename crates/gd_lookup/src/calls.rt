@@ -27,7 +27,7 @@ use gd_vault::{FileId, Vault};
 use std::alloc::Global;
 
 /// The address of the bucket in which keys of a hash belong.
-#[tactic(auto, using(gd_verify::proofs::Asks::only_asks, gd_verify::proofs::Asks::is_there_now, crate::proofs::Opens::open_told, crate::proofs::Opens::refused_read))]
+#[tactic(auto, using(gd_readable::proofs::Asks::only_asks, gd_readable::proofs::Asks::is_there_now, crate::proofs::Opens::open_told, crate::proofs::Opens::refused_read))]
 pub fn bucket_address<V: Vault>(
     vault: &mut V,
     f: FileId,
@@ -47,7 +47,7 @@ pub fn bucket_address<V: Vault>(
 }
 
 /// Reads the bucket at an address, by way of a buffer of one block, which has the block afterwards.
-#[tactic(auto, using(gd_verify::proofs::Asks::only_asks, gd_verify::proofs::Asks::is_there_now, crate::proofs::Opens::open_told, crate::proofs::Opens::refused_read))]
+#[tactic(auto, using(gd_readable::proofs::Asks::only_asks, gd_readable::proofs::Asks::is_there_now, crate::proofs::Opens::open_told, crate::proofs::Opens::refused_read))]
 pub fn bucket_at<V: Vault>(
     alloc: Global,
     vault: &mut V,
@@ -72,7 +72,7 @@ pub fn bucket_at<V: Vault>(
 }
 
 /// The place of the slot of a key in its bucket, which stands at the address `at`. Takes no memory.
-#[tactic(auto, using(gd_verify::proofs::Asks::only_asks, gd_verify::proofs::Asks::is_there_now, crate::proofs::Opens::open_told, crate::proofs::Opens::refused_read))]
+#[tactic(auto, using(gd_readable::proofs::Asks::only_asks, gd_readable::proofs::Asks::is_there_now, crate::proofs::Opens::open_told, crate::proofs::Opens::refused_read))]
 pub fn find_key<V: Vault>(
     vault: &mut V,
     f: FileId,
@@ -95,7 +95,7 @@ pub fn find_key<V: Vault>(
 }
 
 /// The key of a full slot, of which `at` is the bucket's address and `place` the number.
-#[tactic(auto, using(gd_verify::proofs::Asks::only_asks, gd_verify::proofs::Asks::is_there_now, crate::proofs::Opens::open_told, crate::proofs::Opens::refused_read))]
+#[tactic(auto, using(gd_readable::proofs::Asks::only_asks, gd_readable::proofs::Asks::is_there_now, crate::proofs::Opens::open_told, crate::proofs::Opens::refused_read))]
 pub fn read_key<V: Vault>(
     alloc: Global,
     vault: &mut V,
@@ -115,7 +115,7 @@ pub fn read_key<V: Vault>(
 }
 
 /// The value of a full slot, of which `at` is the bucket's address and `place` the number.
-#[tactic(auto, using(gd_verify::proofs::Asks::only_asks, gd_verify::proofs::Asks::is_there_now, crate::proofs::Opens::open_told, crate::proofs::Opens::refused_read))]
+#[tactic(auto, using(gd_readable::proofs::Asks::only_asks, gd_readable::proofs::Asks::is_there_now, crate::proofs::Opens::open_told, crate::proofs::Opens::refused_read))]
 pub fn read_value<V: Vault>(
     alloc: Global,
     vault: &mut V,
@@ -136,7 +136,7 @@ pub fn read_value<V: Vault>(
 }
 
 /// The number of records, by the count fields of the buckets. Takes no memory.
-#[tactic(auto, using(gd_verify::proofs::Asks::only_asks, gd_verify::proofs::Asks::is_there_now, crate::proofs::Opens::open_told, crate::proofs::Opens::refused_read))]
+#[tactic(auto, using(gd_readable::proofs::Asks::only_asks, gd_readable::proofs::Asks::is_there_now, crate::proofs::Opens::open_told, crate::proofs::Opens::refused_read))]
 pub fn count<V: Vault>(vault: &mut V, f: FileId, header: &Header) -> Result<u64, DbError>
     requires there { HasFile (V.view_of vault.old) f.0 }
     requires header { IsHeader header.now }
@@ -149,7 +149,7 @@ pub fn count<V: Vault>(vault: &mut V, f: FileId, header: &Header) -> Result<u64,
 }
 
 /// The first key in file order, by way of a buffer of one block.
-#[tactic(auto, using(gd_verify::proofs::Asks::only_asks, gd_verify::proofs::Asks::is_there_now, crate::proofs::Opens::open_told, crate::proofs::Opens::refused_read))]
+#[tactic(auto, using(gd_readable::proofs::Asks::only_asks, gd_readable::proofs::Asks::is_there_now, crate::proofs::Opens::open_told, crate::proofs::Opens::refused_read))]
 pub fn first_key<V: Vault>(
     alloc: Global,
     vault: &mut V,
@@ -169,7 +169,7 @@ pub fn first_key<V: Vault>(
 }
 
 /// What follows a key in file order, by way of a buffer of one block.
-#[tactic(auto, using(gd_verify::proofs::Asks::only_asks, gd_verify::proofs::Asks::is_there_now, crate::proofs::Opens::open_told, crate::proofs::Opens::refused_read))]
+#[tactic(auto, using(gd_readable::proofs::Asks::only_asks, gd_readable::proofs::Asks::is_there_now, crate::proofs::Opens::open_told, crate::proofs::Opens::refused_read))]
 pub fn key_after<V: Vault>(
     alloc: Global,
     vault: &mut V,

@@ -4,10 +4,10 @@ ghost use Rattle.std.specs.Prelude.{◌≡◌, ◌+◌, ◌-◌, ◌*◌, ◌%�
 ghost use Rattle.std.specs.Str.{bytes_eq};
 ghost use Rattle.gd_format.specs.Field.{bytes_at};
 ghost use Rattle.gd_format.specs.Hash.{hash_of};
-ghost use Rattle.gd_laws.specs.Find.{is_slot_of};
+ghost use Rattle.gd_map_laws.specs.Find.{is_slot_of};
 ghost use Rattle.gd_bucket.specs.Probing.{is_candidate};
 ghost use Rattle.gd_layout.specs.Fits.{FitsFields};
-ghost use Rattle.gd_verify.specs.Asks.{kept_of, bytes_in, is_there, Tells, IsCause, IsIn};
+ghost use Rattle.gd_readable.specs.Asks.{kept_of, bytes_in, is_there, Tells, IsCause, IsIn};
 ghost use Rattle.gd_lookup.specs.Finding.{IsCandidateAt, IsKeyAbsent, IsKeyBucket, IsKeySlot};
 ghost use Rattle.gd_lookup.specs.Reading.{IsRefused, LiesIn};
 
@@ -15,8 +15,8 @@ use gd_base::DbError;
 use gd_bucket::find;
 use gd_format::Slot;
 use gd_layout::Bucket;
+use gd_readable::{Stopped, fill};
 use gd_vault::{FileId, Vault};
-use gd_verify::{Stopped, fill};
 
 fn are_equal(one: &[u8], two: &[u8]) -> bool
     ensures { result ≡ bytes_eq one.now two.now }
@@ -25,7 +25,7 @@ fn are_equal(one: &[u8], two: &[u8]) -> bool
 }
 
 // Are the bytes from a place on those of a key? None where the file ends before.
-#[tactic(auto, using(gd_verify::proofs::Asks::cause_later))]
+#[tactic(auto, using(gd_readable::proofs::Asks::cause_later))]
 fn same_as_key<V: Vault>(
     vault: &mut V,
     f: FileId,

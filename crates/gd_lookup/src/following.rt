@@ -4,8 +4,8 @@ ghost use Rattle.std.specs.Prelude.{◌≡◌, ◌+◌, ◌-◌, ◌*◌, ◌/�
 ghost use Rattle.gd_format.specs.File.{are_fields_right, block_of, entries_of, is_full_at, is_record_in, key_of, records};
 ghost use Rattle.gd_format.specs.HeaderFault.{natural};
 ghost use Rattle.gd_format.specs.Headers.{IsHeader};
-ghost use Rattle.gd_verify.specs.Asks.{kept_of, bytes_in, is_there, Tells};
-ghost use Rattle.gd_verify.specs.Left.{passing_from, slots_left, buckets_left};
+ghost use Rattle.gd_readable.specs.Asks.{kept_of, bytes_in, is_there, Tells};
+ghost use Rattle.gd_readable.specs.Left.{passing_from, slots_left, buckets_left};
 ghost use Rattle.gd_lookup.specs.Counting.{behind, Begins, IsBlock};
 ghost use Rattle.gd_lookup.specs.Open.{IsOpen};
 ghost use Rattle.gd_lookup.specs.Order.{first_of, following, successor};
@@ -22,7 +22,7 @@ use gd_vault::{FileId, Vault};
 use std::alloc::Global;
 
 // The next full slot of a bucket, from one on.
-#[tactic(auto, using(gd_verify::proofs::Passing::passing_on, gd_verify::proofs::Passing::passing_found, gd_verify::proofs::Passing::passing_end), unfolding(gd_format::specs::File::is_full_at))]
+#[tactic(auto, using(gd_readable::proofs::Passing::passing_on, gd_readable::proofs::Passing::passing_found, gd_readable::proofs::Passing::passing_end), unfolding(gd_format::specs::File::is_full_at))]
 fn next_full(block: &[u8], elems: u32, from: u32) -> Option<u32>
     requires size { 112 + 24 * elems ≤ length block.now }
     requires slot { from ≤ elems }

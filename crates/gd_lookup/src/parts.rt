@@ -8,16 +8,16 @@ ghost use Rattle.gd_format.specs.HeaderFault.{natural};
 ghost use Rattle.gd_format.specs.Headers.{IsHeader};
 ghost use Rattle.gd_format.specs.Slots.{is_full};
 ghost use Rattle.gd_layout.specs.Fits.{FitsFields};
-ghost use Rattle.gd_verify.specs.Asks.{kept_of, bytes_in, is_there, Tells, IsCause, IsIn};
-ghost use Rattle.gd_verify.specs.Standing.{place_of};
+ghost use Rattle.gd_readable.specs.Asks.{kept_of, bytes_in, is_there, Tells, IsCause, IsIn};
+ghost use Rattle.gd_readable.specs.Standing.{place_of};
 ghost use Rattle.gd_lookup.specs.Open.{IsOpen};
 ghost use Rattle.gd_lookup.specs.Reading.{IsBucketPlace, IsRefused, LiesIn, key_in, value_in};
 
 use gd_base::{Datum, DbError};
 use gd_format::{Header, Slot};
 use gd_layout::{Bucket, LayoutError, Native, i64_from};
+use gd_readable::{Stopped, fill};
 use gd_vault::{FileId, Vault};
-use gd_verify::{Stopped, fill};
 use std::alloc::Global;
 
 // The address, where the number is one.

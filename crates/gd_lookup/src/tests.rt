@@ -8,8 +8,8 @@ use crate::{
 use gd_base::DbError;
 use gd_format::Header;
 use gd_layout::hash;
+use gd_readable::readable;
 use gd_vault::FileId;
-use gd_verify::readable;
 use std::alloc::Global;
 use std::process::Abort;
 use std::test::Fail;

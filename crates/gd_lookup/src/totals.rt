@@ -5,7 +5,7 @@ ghost use Rattle.gd_format.specs.Bucket.{counts_at};
 ghost use Rattle.gd_format.specs.File.{block_of, entries_of, records, run_at};
 ghost use Rattle.gd_format.specs.HeaderFault.{natural};
 ghost use Rattle.gd_format.specs.Headers.{IsHeader};
-ghost use Rattle.gd_verify.specs.Asks.{kept_of, bytes_in, is_there, Tells};
+ghost use Rattle.gd_readable.specs.Asks.{kept_of, bytes_in, is_there, Tells};
 ghost use Rattle.gd_lookup.specs.Counting.{have_share, run_of};
 ghost use Rattle.gd_lookup.specs.Open.{IsOpen};
 ghost use Rattle.gd_lookup.specs.Reading.{IsRefused};
@@ -14,8 +14,8 @@ use crate::parts::entry_address;
 use gd_base::DbError;
 use gd_format::Header;
 use gd_layout::Native;
+use gd_readable::fill;
 use gd_vault::{FileId, Vault};
-use gd_verify::fill;
 
 // How many entries of the directory a bucket has, and how many records.
 #[derive(Clone, Copy)]

@@ -9,9 +9,9 @@ use Rattle.gd_format.specs.Bucket.{Bucket, is_from_zero}
 use Rattle.gd_format.specs.File.{entry_at, entries_of}
 use Rattle.gd_format.specs.FreeSide.{FreeLists, IsFreeSide}
 use Rattle.gd_format.specs.Sound.{extent}
-use Rattle.gd_parts.specs.Frame.{written}
-use Rattle.gd_laws.proofs.Stays.{within_ends}
-use Rattle.gd_laws.proofs.Put.{written_size}
+use Rattle.gd_file_laws.specs.Frame.{written}
+use Rattle.gd_map_laws.proofs.Stays.{within_ends}
+use Rattle.gd_map_laws.proofs.Put.{written_size}
 use Rattle.gd_space.specs.Effect.{Change, Given}
 use Rattle.gd_split.specs.Held.{IsHeld, IsBucketOf, Holds, HasBucket, index_at}
 use Rattle.gd_split.specs.Steps.{Steps, KeepsBuckets}

@@ -14,21 +14,21 @@ use Rattle.gd_format.specs.File.{bits_at, entry_at, entries_of, run_at, block_of
 use Rattle.gd_format.specs.Sound.{extent}
 use Rattle.gd_format.specs.Covers.{has_byte, cover}
 use Rattle.gd_format.specs.FreeSide.{FreeLists, IsFreeSide, free_extents}
-use Rattle.gd_parts.proofs.Lists.{bool_cases}
-use Rattle.gd_laws.specs.Update.{IsRecordKept}
-use Rattle.gd_laws.specs.Space.{one_if, free_in, free_of, bucket_cover, all_cover, grown, IsSpaceRight}
-use Rattle.gd_laws.specs.Frame.{KeepsBut}
-use Rattle.gd_laws.specs.Change.{IsSoundFile}
-use Rattle.gd_laws.specs.Split.{DoubleChange, MapStays}
-use Rattle.gd_laws.specs.SplitSpace.{DoubleMoves}
-use Rattle.gd_laws.proofs.Stays.{has_in, keeps_join, bucket_in_all, within_ends, block_counts, slots_count, slots_kept}
-use Rattle.gd_laws.proofs.Change.{keeps_weaker, grown-none}
-use Rattle.gd_laws.proofs.Space.{grown-some, grown-le}
-use Rattle.gd_laws.proofs.Find.{grown_is_extent, grown-add}
-use Rattle.gd_laws.proofs.Slots.{of_bucket}
-use Rattle.gd_laws.proofs.Side.{side_kept}
-use Rattle.gd_laws.proofs.Double.{double_stays, half_below, block_is}
-use Rattle.gd_laws.proofs.DoubleSpace as doubles
+use Rattle.gd_file_laws.proofs.Lists.{bool_cases}
+use Rattle.gd_map_laws.specs.Update.{IsRecordKept}
+use Rattle.gd_map_laws.specs.Space.{one_if, free_in, free_of, bucket_cover, all_cover, grown, IsSpaceRight}
+use Rattle.gd_map_laws.specs.Frame.{KeepsBut}
+use Rattle.gd_map_laws.specs.Change.{IsSoundFile}
+use Rattle.gd_map_laws.specs.Split.{DoubleChange, MapStays}
+use Rattle.gd_map_laws.specs.SplitSpace.{DoubleMoves}
+use Rattle.gd_map_laws.proofs.Stays.{has_in, keeps_join, bucket_in_all, within_ends, block_counts, slots_count, slots_kept}
+use Rattle.gd_map_laws.proofs.Change.{keeps_weaker, grown-none}
+use Rattle.gd_map_laws.proofs.Space.{grown-some, grown-le}
+use Rattle.gd_map_laws.proofs.Find.{grown_is_extent, grown-add}
+use Rattle.gd_map_laws.proofs.Slots.{of_bucket}
+use Rattle.gd_map_laws.proofs.Side.{side_kept}
+use Rattle.gd_map_laws.proofs.Double.{double_stays, half_below, block_is}
+use Rattle.gd_map_laws.proofs.DoubleSpace as doubles
 use Rattle.gd_space.specs.Effect.{CanBeGiven}
 use Rattle.gd_space.proofs.Tooks.{below-more}
 use Rattle.gd_space.proofs.Sides.{cover-past}

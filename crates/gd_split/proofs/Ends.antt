@@ -6,14 +6,14 @@ use Rattle.gd_format.specs.HeaderFault.{header_of}
 use Rattle.gd_format.specs.File.{front_of, records}
 use Rattle.gd_format.specs.Slots.{count, is_full, SameSlots}
 use Rattle.gd_format.specs.Sound.{IsSound}
-use Rattle.gd_laws.specs.Lookup.{value_at}
-use Rattle.gd_laws.specs.Maps.{pair_map}
-use Rattle.gd_laws.specs.Slots.{is_bad}
-use Rattle.gd_laws.specs.Overflow.{is_close}
-use Rattle.gd_laws.proofs.Lookup.{lookup_exact}
-use Rattle.gd_laws.proofs.Maps.{same_maps}
-use Rattle.gd_laws.proofs.Whole.{readable_of}
-use Rattle.gd_laws.proofs.Overflow.{close_stays, full_has_bits}
+use Rattle.gd_map_laws.specs.Lookup.{value_at}
+use Rattle.gd_map_laws.specs.Maps.{pair_map}
+use Rattle.gd_map_laws.specs.Slots.{is_bad}
+use Rattle.gd_map_laws.specs.Overflow.{is_close}
+use Rattle.gd_map_laws.proofs.Lookup.{lookup_exact}
+use Rattle.gd_map_laws.proofs.Maps.{same_maps}
+use Rattle.gd_map_laws.proofs.Whole.{readable_of}
+use Rattle.gd_map_laws.proofs.Overflow.{close_stays, full_has_bits}
 use Rattle.gd_split.specs.SplitLaws.{IsNotLast}
 
 pub same_lookups : (old new : List ℕ) → IsSound old → IsSound new → ((key : List ℕ) → value_at new (header_of (front_of new)) key ≡ value_at old (header_of (front_of old)) key) → pair_map (records new) ≡ pair_map (records old)

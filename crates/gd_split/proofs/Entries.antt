@@ -8,11 +8,11 @@ use Rattle.gd_format.specs.Field.{bytes_at, number_of, i64_at, u64_at}
 use Rattle.std.specs.Int.{w64, cast_signed}
 use Rattle.gd_format.specs.Sound.{extent}
 use Rattle.gd_format.specs.Covers.{has_byte}
-use Rattle.gd_parts.specs.Frame.{written}
-use Rattle.gd_parts.proofs.Lists.{bool_cases}
-use Rattle.gd_laws.specs.Space.{one_if}
-use Rattle.gd_laws.proofs.Stays.{has_in, keeps_join, write_keeps}
-use Rattle.gd_laws.proofs.Put.{written_reads, written_size}
+use Rattle.gd_file_laws.specs.Frame.{written}
+use Rattle.gd_file_laws.proofs.Lists.{bool_cases}
+use Rattle.gd_map_laws.specs.Space.{one_if}
+use Rattle.gd_map_laws.proofs.Stays.{has_in, keeps_join, write_keeps}
+use Rattle.gd_map_laws.proofs.Put.{written_reads, written_size}
 use Rattle.gd_split.specs.Runs.{IsPointed, IsDoubled}
 
 -- a piece of the front of a list

@@ -12,7 +12,7 @@ use Rattle.gd_vault.specs.Frame.{Frame, Within}
 use Rattle.gd_vault.specs.FrameLaws.{along_has}
 use Rattle.gd_vault.specs.Stay.{Has}
 use Rattle.gd_vault.proofs.Content.{content_step}
-use Rattle.gd_parts.specs.Frame.{written}
+use Rattle.gd_file_laws.specs.Frame.{written}
 use Rattle.gd_space.specs.Effect.{WritesAtMost}
 use Rattle.gd_split.specs.Turns.{Turns}
 

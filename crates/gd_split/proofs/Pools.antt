@@ -3,16 +3,16 @@ use Rattle.std.proofs.Common.{◌≡◌, ℕ, zero, suc, ◌+◌, ◌-◌, ◌<�
 use Rattle.std.specs.List.{AllByRecursion}
 use Rattle.std.proofs.lemmas.Bool.{cases_lt}
 use Rattle.std.proofs.lemmas.Bool.Decides.{nat_tests}
-use Rattle.gd_parts.proofs.Lists.{bool_cases}
-use Rattle.gd_parts.proofs.Covers.{has_in}
+use Rattle.gd_file_laws.proofs.Lists.{bool_cases}
+use Rattle.gd_file_laws.proofs.Covers.{has_in}
 use Rattle.gd_format.specs.declared.Extent.{Extent}
 use Rattle.gd_format.specs.declared.Header.{Header}
 use Rattle.gd_format.specs.Covers.{has_byte, cover, size_sum}
 use Rattle.gd_format.specs.FreeSide.{FreeLists, IsBelow, IsFreeSide, free_extents, stack_extents}
 use Rattle.gd_format.specs.Sound.{extent}
 use Rattle.gd_format.proofs.Covers.{cover-append, size_sum-append, all-append, all-left, all-right}
-use Rattle.gd_laws.specs.Space.{one_if, all_cover, IsSpaceRight}
-use Rattle.gd_laws.specs.Frame.{KeepsBut}
+use Rattle.gd_map_laws.specs.Space.{one_if, all_cover, IsSpaceRight}
+use Rattle.gd_map_laws.specs.Frame.{KeepsBut}
 use Rattle.gd_space.specs.Calls.{free_lists}
 use Rattle.gd_space.specs.Effect.{Keeps}
 use Rattle.gd_space.proofs.Sides.{cover-past}

@@ -19,29 +19,29 @@ use Rattle.gd_format.specs.File.{front_of, bits_at, entry_at, entries_of, run_at
 use Rattle.gd_format.specs.Sound.{IsSound, extent, extents, extents_held, table_of, top_of, most_of, total, lost_total}
 use Rattle.gd_format.specs.Covers.{has_byte, cover}
 use Rattle.gd_format.specs.FreeSide.{StackBlock, IsBelow, IsStack, IsFreeSide, free_extents, stack_extents}
-use Rattle.gd_parts.specs.Cover.{extents_in}
-use Rattle.gd_parts.specs.Frame.{written}
-use Rattle.gd_parts.proofs.Headers.{header_in}
-use Rattle.gd_laws.specs.Lookup.{lookup, slot_records, index_of, value_at}
-use Rattle.gd_laws.specs.Update.{IsRecordKept}
-use Rattle.gd_laws.specs.Space.{one_if, free_in, free_of, bucket_cover, all_cover, IsSpaceRight}
-use Rattle.gd_laws.specs.Frame.{KeepsBut}
-use Rattle.gd_laws.specs.Change.{IsSoundFile}
-use Rattle.gd_laws.specs.Sounds.{IsSoundBy, pool_of}
-use Rattle.gd_laws.specs.Beside.{BesideChange}
-use Rattle.gd_laws.proofs.Stays.{has_in, bucket_in_all, within_ends, block_counts, slots_count, slots_kept, write_keeps}
-use Rattle.gd_laws.proofs.Change.{keeps_weaker}
-use Rattle.gd_laws.proofs.Space.{sum_same, first_same}
-use Rattle.gd_laws.proofs.Slots.{of_bucket}
-use Rattle.gd_laws.proofs.Update.{kept_records}
-use Rattle.gd_laws.proofs.Lookup.{index_below}
-use Rattle.gd_laws.proofs.Side.{side_kept}
-use Rattle.gd_laws.proofs.Beside.{parts_new, space_new}
-use Rattle.gd_laws.proofs.Sounds.{sound_blocks, has_side, makes_sound, cover_is, below_is_right}
-use Rattle.gd_laws.proofs.Sounds as sounds
-use Rattle.gd_laws.proofs.Sums.{total_is}
-use Rattle.gd_laws.proofs.Fronts.{front_read}
-use Rattle.gd_laws.proofs.Put.{written_reads, written_size}
+use Rattle.gd_file_laws.specs.Cover.{extents_in}
+use Rattle.gd_file_laws.specs.Frame.{written}
+use Rattle.gd_file_laws.proofs.Headers.{header_in}
+use Rattle.gd_map_laws.specs.Lookup.{lookup, slot_records, index_of, value_at}
+use Rattle.gd_map_laws.specs.Update.{IsRecordKept}
+use Rattle.gd_map_laws.specs.Space.{one_if, free_in, free_of, bucket_cover, all_cover, IsSpaceRight}
+use Rattle.gd_map_laws.specs.Frame.{KeepsBut}
+use Rattle.gd_map_laws.specs.Change.{IsSoundFile}
+use Rattle.gd_map_laws.specs.Sounds.{IsSoundBy, pool_of}
+use Rattle.gd_map_laws.specs.Beside.{BesideChange}
+use Rattle.gd_map_laws.proofs.Stays.{has_in, bucket_in_all, within_ends, block_counts, slots_count, slots_kept, write_keeps}
+use Rattle.gd_map_laws.proofs.Change.{keeps_weaker}
+use Rattle.gd_map_laws.proofs.Space.{sum_same, first_same}
+use Rattle.gd_map_laws.proofs.Slots.{of_bucket}
+use Rattle.gd_map_laws.proofs.Update.{kept_records}
+use Rattle.gd_map_laws.proofs.Lookup.{index_below}
+use Rattle.gd_map_laws.proofs.Side.{side_kept}
+use Rattle.gd_map_laws.proofs.Beside.{parts_new, space_new}
+use Rattle.gd_map_laws.proofs.Sounds.{sound_blocks, has_side, makes_sound, cover_is, below_is_right}
+use Rattle.gd_map_laws.proofs.Sounds as sounds
+use Rattle.gd_map_laws.proofs.Sums.{total_is}
+use Rattle.gd_map_laws.proofs.Fronts.{front_read}
+use Rattle.gd_map_laws.proofs.Put.{written_reads, written_size}
 use Rattle.gd_space.specs.Calls.{free_lists}
 use Rattle.gd_split.specs.Held.{IsHeld, lost_in, sum_below}
 use Rattle.gd_split.specs.SplitLaws.{TellsHead, IsWhole}

@@ -4,7 +4,7 @@ use Rattle.std.specs.Prelude.{ℤ, pos, ◌/◌, ◌%◌}
 use Rattle.std.specs.List.{AllByRecursion}
 use Rattle.std.proofs.lemmas.Bool.{cases_lt, cases_eq}
 use Rattle.std.proofs.lemmas.Bool.Decides.{nat_tests}
-use Rattle.gd_parts.proofs.Lists.{bool_cases}
+use Rattle.gd_file_laws.proofs.Lists.{bool_cases}
 use Rattle.std.proofs.lemmas.Nat.{shr-shr, pow-add, pow_pos, div-mul-add, div-add-mod'}
 use Rattle.std.proofs.Math.Nat.{div-lt_iff_lt-mul}
 use Rattle.gd_format.specs.declared.Extent.{Extent}
@@ -17,26 +17,26 @@ use Rattle.gd_format.specs.Slots.{count, AreReached, is_astray}
 use Rattle.gd_format.specs.Sound.{extent}
 use Rattle.gd_format.specs.Covers.{has_byte, cover}
 use Rattle.gd_format.specs.FreeSide.{FreeLists, IsBelow, IsFreeSide, free_extents}
-use Rattle.gd_parts.specs.Frame.{written}
-use Rattle.gd_laws.specs.Update.{IsSameShape}
-use Rattle.gd_laws.specs.Space.{one_if, free_in, free_of, block_has, bucket_cover, all_cover, grown, IsSpaceRight}
-use Rattle.gd_laws.specs.Frame.{KeepsBut, touched_of}
-use Rattle.gd_laws.specs.Change.{place_of, IsSoundFile}
-use Rattle.gd_laws.specs.Split.{SplitChange, MapStays}
-use Rattle.gd_laws.specs.SplitSpace.{SplitMoves}
-use Rattle.gd_laws.specs.SplitWrites.{HalfMade, SplitWritten}
-use Rattle.gd_laws.proofs.Stays.{has_in, keeps_join, write_keeps, bucket_in_all, within_ends}
-use Rattle.gd_laws.proofs.Change.{keeps_weaker, grown-none, space_shape, all_shape}
-use Rattle.gd_laws.proofs.Space.{grown-some, grown-le}
-use Rattle.gd_laws.proofs.Find.{grown_is_extent}
-use Rattle.gd_laws.proofs.Put.{written_size, written_stays}
-use Rattle.gd_laws.proofs.SplitWrites.{split_change}
-use Rattle.gd_laws.proofs.Split.{split_stays}
-use Rattle.gd_laws.proofs.SplitSpace.{split_space_right}
-use Rattle.gd_laws.proofs.SplitSpace as splits
-use Rattle.gd_laws.proofs.FileUpdate.{entry_shape, parts_shape, value_shape}
-use Rattle.gd_laws.proofs.Side.{side_kept}
-use Rattle.gd_laws.proofs.OneKey.{entry_cases}
+use Rattle.gd_file_laws.specs.Frame.{written}
+use Rattle.gd_map_laws.specs.Update.{IsSameShape}
+use Rattle.gd_map_laws.specs.Space.{one_if, free_in, free_of, block_has, bucket_cover, all_cover, grown, IsSpaceRight}
+use Rattle.gd_map_laws.specs.Frame.{KeepsBut, touched_of}
+use Rattle.gd_map_laws.specs.Change.{place_of, IsSoundFile}
+use Rattle.gd_map_laws.specs.Split.{SplitChange, MapStays}
+use Rattle.gd_map_laws.specs.SplitSpace.{SplitMoves}
+use Rattle.gd_map_laws.specs.SplitWrites.{HalfMade, SplitWritten}
+use Rattle.gd_map_laws.proofs.Stays.{has_in, keeps_join, write_keeps, bucket_in_all, within_ends}
+use Rattle.gd_map_laws.proofs.Change.{keeps_weaker, grown-none, space_shape, all_shape}
+use Rattle.gd_map_laws.proofs.Space.{grown-some, grown-le}
+use Rattle.gd_map_laws.proofs.Find.{grown_is_extent}
+use Rattle.gd_map_laws.proofs.Put.{written_size, written_stays}
+use Rattle.gd_map_laws.proofs.SplitWrites.{split_change}
+use Rattle.gd_map_laws.proofs.Split.{split_stays}
+use Rattle.gd_map_laws.proofs.SplitSpace.{split_space_right}
+use Rattle.gd_map_laws.proofs.SplitSpace as splits
+use Rattle.gd_map_laws.proofs.FileUpdate.{entry_shape, parts_shape, value_shape}
+use Rattle.gd_map_laws.proofs.Side.{side_kept}
+use Rattle.gd_map_laws.proofs.OneKey.{entry_cases}
 use Rattle.gd_space.proofs.Tooks.{below-more}
 use Rattle.gd_space.proofs.Sides.{cover-past}
 use Rattle.gd_split.specs.Held.{IsHeld, IsBucketOf, index_at, lost_in, sum_below}

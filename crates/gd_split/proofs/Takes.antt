@@ -6,10 +6,10 @@ use Rattle.gd_format.specs.declared.Header.{Header}
 use Rattle.gd_format.specs.Covers.{has_byte}
 use Rattle.gd_format.specs.FreeSide.{FreeLists, IsFreeSide, free_extents}
 use Rattle.gd_format.specs.Sound.{extent}
-use Rattle.gd_laws.specs.Space.{one_if}
-use Rattle.gd_laws.proofs.Stays.{has_in}
-use Rattle.gd_laws.proofs.Space.{grown-some}
-use Rattle.gd_laws.proofs.Find.{grown_is_extent}
+use Rattle.gd_map_laws.specs.Space.{one_if}
+use Rattle.gd_map_laws.proofs.Stays.{has_in}
+use Rattle.gd_map_laws.proofs.Space.{grown-some}
+use Rattle.gd_map_laws.proofs.Find.{grown_is_extent}
 use Rattle.gd_space.specs.Calls.{free_lists, HasFreeSide, Done}
 use Rattle.gd_space.specs.Effect.{Change, TellsNone}
 use Rattle.gd_space.proofs.Dones.{tells_none}

@@ -7,8 +7,8 @@ use Rattle.gd_format.specs.Field.{bytes_at}
 use Rattle.gd_format.specs.Bucket.{Bucket, bucket_at}
 use Rattle.gd_format.specs.File.{entry_at, entries_of}
 use Rattle.gd_format.specs.FreeSide.{FreeLists, StackBlock, IsBelow, IsFreeSide, free_extents}
-use Rattle.gd_laws.specs.Space.{free_of, all_cover}
-use Rattle.gd_laws.specs.Change.{IsSoundFile}
+use Rattle.gd_map_laws.specs.Space.{free_of, all_cover}
+use Rattle.gd_map_laws.specs.Change.{IsSoundFile}
 use Rattle.gd_space.specs.Calls.{free_lists}
 use Rattle.gd_vault.specs.Content.{File, Content}
 use Rattle.gd_vault.specs.Views.{View, content_of}

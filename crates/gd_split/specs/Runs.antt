@@ -3,8 +3,8 @@ use Rattle.std.specs.Prelude.{◌≡◌, ℕ, ◌+◌, ◌*◌, ◌/◌, ◌<◌
 use Rattle.gd_format.specs.Field.{i64_at}
 use Rattle.gd_format.specs.Sound.{extent}
 use Rattle.gd_format.specs.Covers.{has_byte}
-use Rattle.gd_laws.specs.Space.{one_if}
-use Rattle.gd_laws.specs.Frame.{KeepsBut}
+use Rattle.gd_map_laws.specs.Space.{one_if}
+use Rattle.gd_map_laws.specs.Frame.{KeepsBut}
 
 -- so many entries from a place on have one address now
 pub record IsPointed (place count address : ℕ) (old new : List ℕ) : Type 0 where

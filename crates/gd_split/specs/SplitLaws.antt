@@ -10,12 +10,12 @@ use Rattle.gd_format.specs.File.{front_of, entries_of, records}
 use Rattle.gd_format.specs.Slots.{count, is_full, SameSlots}
 use Rattle.gd_format.specs.Sound.{IsSound, extent, table_of, top_of, lost_total}
 use Rattle.gd_format.specs.FreeSide.{FreeLists, StackBlock, free_extents}
-use Rattle.gd_parts.specs.Frame.{written}
-use Rattle.gd_parts.specs.Parts.{file_header}
-use Rattle.gd_laws.specs.Lookup.{value_at}
-use Rattle.gd_laws.specs.Maps.{pair_map}
-use Rattle.gd_laws.specs.Slots.{is_bad}
-use Rattle.gd_laws.specs.Overflow.{is_close}
+use Rattle.gd_file_laws.specs.Frame.{written}
+use Rattle.gd_file_laws.specs.Parts.{file_header}
+use Rattle.gd_map_laws.specs.Lookup.{value_at}
+use Rattle.gd_map_laws.specs.Maps.{pair_map}
+use Rattle.gd_map_laws.specs.Slots.{is_bad}
+use Rattle.gd_map_laws.specs.Overflow.{is_close}
 use Rattle.gd_space.specs.Calls.{free_lists}
 use Rattle.gd_space.specs.Effect.{Change, Given}
 use Rattle.gd_split.specs.Held.{IsHeld, IsBucketOf, lost_in}

@@ -4,7 +4,7 @@ use Rattle.gd_format.specs.declared.Extent.{Extent}
 use Rattle.gd_format.specs.declared.Header.{Header}
 use Rattle.gd_format.specs.Bucket.{Bucket}
 use Rattle.gd_format.specs.FreeSide.{FreeLists, StackBlock, free_extents}
-use Rattle.gd_laws.specs.Lookup.{value_at}
+use Rattle.gd_map_laws.specs.Lookup.{value_at}
 use Rattle.gd_space.specs.Calls.{free_lists}
 use Rattle.gd_vault.specs.Content.{File, Content}
 use Rattle.gd_vault.specs.Views.{View, content_of}

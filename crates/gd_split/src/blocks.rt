@@ -2,7 +2,7 @@
 
 ghost use Rattle.std.specs.Prelude.{◌≡◌, ◌+◌, ◌*◌, ◌^◌, ◌<◌, ◌≤◌, Some, length, max, OnOk, OnErr, IfErr};
 ghost use Rattle.gd_base.specs.Causes.{Rose};
-ghost use Rattle.gd_parts.specs.Frame.{written};
+ghost use Rattle.gd_file_laws.specs.Frame.{written};
 ghost use Rattle.gd_space.specs.Effect.{WritesAtMost};
 ghost use Rattle.gd_split.specs.Turns.{Turns};
 ghost use Rattle.gd_split.specs.Halves.{Spells};

@@ -1,8 +1,8 @@
 //! One split of a bucket in two, and one doubling of the directory.
 //!
 //! While they are repeated, the header and its table stand in memory alone: `split_once` writes the two buckets and their run
-//! of the directory, `double` writes the new directory, and `settle` writes the header's block at the end. What they take
-//! and give goes by the free extents of a bucket that has no place yet: the one that the next split makes.
+//! of the directory, `double` writes the new directory, and `make_room` of gd_grow writes the header's block at the end. What
+//! they take and give goes by the free extents of a bucket that has no place yet: the one that the next split makes.
 #![tactic(auto)]
 
 mod blocks;
@@ -14,7 +14,6 @@ mod laws;
 mod pages;
 mod rooms;
 mod runs;
-mod settling;
 mod splitting;
 #[cfg(test)]
 mod tests;
@@ -24,5 +23,4 @@ pub use crate::errors::SplitError;
 pub use crate::laws::{
     doubling_holds, held_is_whole, same_lookups, sound_is_held, split_holds, splits_end,
 };
-pub use crate::settling::settle;
 pub use crate::splitting::split_once;

@@ -49,7 +49,7 @@ fn start_of(header: &Header, hash: u32, bits: u32) -> u64
 /// Answers the address of the second bucket; the first keeps the old one, and the free extents.
 ///
 /// `first` and `second` are empty buckets with one bit more. The free extents of `second` are loose ones, in no block yet:
-/// the space goes by them, and they stand in its block then. The header's block is not written: `settle` does that.
+/// the space goes by them, and they stand in its block then. The header's block is not written: the caller does that.
 #[tactic(auto, using(gd_vault::proofs::Within::within))]
 pub fn split_once<V: Vault>(
     vault: &mut V,

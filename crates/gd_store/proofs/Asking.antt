@@ -10,8 +10,8 @@ use Rattle.gd_format.specs.Sound.{sound_fault, space_fault}
 use Rattle.gd_format.proofs.Firsts.{or_else-none}
 use Rattle.gd_vault.specs.Content.{Content}
 use Rattle.gd_vault.specs.Views.{View, HasFile, OnlyAsks, content_of}
-use Rattle.gd_verify.specs.Asks.{Refuses}
-use Rattle.gd_verify.proofs.Refusals.{refuses_map}
+use Rattle.gd_readable.specs.Asks.{Refuses}
+use Rattle.gd_readable.proofs.Refusals.{refuses_map}
 use Rattle.gd_lookup.specs.Open.{OfFile}
 use Rattle.gd_lookup.specs.Reading.{is_of_read, RefusesRead}
 use Rattle.gd_store.specs.declared.access.Access.{Access}

@@ -15,15 +15,15 @@ use Rattle.gd_format.specs.File.{records}
 use Rattle.gd_format.specs.Headers.{IsHeader}
 use Rattle.gd_format.proofs.Pieces.{length-bytes_at}
 use Rattle.gd_layout.specs.Fits.{FitsHeader}
-use Rattle.gd_parts.proofs.Lists.{bool_cases}
-use Rattle.gd_laws.specs.Find.{is_slot_of}
-use Rattle.gd_laws.specs.Maps.{PairMap, pair_map}
+use Rattle.gd_file_laws.proofs.Lists.{bool_cases}
+use Rattle.gd_map_laws.specs.Find.{is_slot_of}
+use Rattle.gd_map_laws.specs.Maps.{PairMap, pair_map}
 use Rattle.gd_lookup.specs.Finding.{IsKeySlot, IsKeyAbsent}
 use Rattle.gd_lookup.specs.Reading.{is_of_read, LiesIn, RefusesRead, value_in}
 use Rattle.gd_vault.specs.Content.{File, Content}
 use Rattle.gd_vault.specs.Frame.{Within}
 use Rattle.gd_vault.specs.Views.{View, HasFile, IsAt, OnlyAsks, content_of}
-use Rattle.gd_verify.proofs.Refusals.{refuses_map}
+use Rattle.gd_readable.proofs.Refusals.{refuses_map}
 use Rattle.gd_change.specs.Calls.{CanChange, Changes, Goes}
 use Rattle.gd_change.specs.KeepSound.{IsNext}
 use Rattle.gd_change.specs.Open.{IsHere, slot_key, slot_size}

@@ -9,8 +9,8 @@ use Rattle.gd_format.specs.Field.{bytes_at}
 use Rattle.gd_format.specs.File.{block_of, entry_at, front_of}
 use Rattle.gd_format.specs.FreeSide.{StackBlock, block_extent}
 use Rattle.gd_format.specs.HeaderFault.{header_of, natural}
-use Rattle.gd_parts.proofs.Lists.{bool_cases}
-use Rattle.gd_laws.specs.Lookup.{index_of}
+use Rattle.gd_file_laws.proofs.Lists.{bool_cases}
+use Rattle.gd_map_laws.specs.Lookup.{index_of}
 use Rattle.gd_vault.specs.Content.{File}
 use Rattle.gd_vault.specs.Views.{View, OnlyAsks, content_of}
 use Rattle.gd_space.specs.Calls.{OnTable, growth_of}

@@ -11,7 +11,7 @@ use Rattle.gd_format.specs.Hash.{hash_of}
 use Rattle.gd_format.specs.HeaderFault.{natural}
 use Rattle.gd_format.specs.Bucket.{Bucket, bucket_at}
 use Rattle.gd_format.specs.File.{entry_at, records}
-use Rattle.gd_laws.specs.Lookup.{index_of}
+use Rattle.gd_map_laws.specs.Lookup.{index_of}
 use Rattle.gd_vault.specs.Content.{File, Content}
 use Rattle.gd_vault.specs.Views.{View, OnlyAsks, content_of}
 use Rattle.gd_lookup.specs.Finding.{IsKeyAbsent, IsKeyBucket, IsKeySlot, OfKey}

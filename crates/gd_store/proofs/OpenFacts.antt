@@ -3,15 +3,15 @@ use Rattle.std.proofs.Common.{◌≡◌, ◌≢◌, ◌⊎◌, ⊎_elim, ℕ, �
 use Rattle.std.specs.Prelude.{IfOk, IfErr}
 use Rattle.gd_base.specs.Causes.{Rose}
 use Rattle.gd_base.specs.declared.errors.DbError.{DbError}
-use Rattle.gd_verify.specs.Asks.{Refuses}
+use Rattle.gd_readable.specs.Asks.{Refuses}
 use Rattle.gd_format.specs.declared.Header.{Header}
 use Rattle.gd_format.specs.Avail.{Avail, avail_at, is_avail}
 use Rattle.gd_format.specs.File.{file_fault, front_of}
 use Rattle.gd_format.specs.HeaderFault.{header_of}
 use Rattle.gd_format.specs.Sound.{IsSound, sound_fault, most_of, table_of}
-use Rattle.gd_laws.proofs.Sounds.{sound_blocks}
-use Rattle.gd_parts.proofs.Headers.{header_in}
-use Rattle.gd_parts.proofs.Points.{sound_parts}
+use Rattle.gd_map_laws.proofs.Sounds.{sound_blocks}
+use Rattle.gd_file_laws.proofs.Headers.{header_in}
+use Rattle.gd_file_laws.proofs.Points.{sound_parts}
 use Rattle.gd_vault.specs.Content.{File, Content}
 use Rattle.gd_vault.specs.Views.{View, IsAt, content_of}
 use Rattle.gd_store.specs.declared.access.Access.{Access}

@@ -19,23 +19,23 @@ use Rattle.gd_format.specs.HeaderFault.{header_of, natural}
 use Rattle.gd_format.specs.Slots.{count, is_full}
 use Rattle.gd_format.specs.Sound.{IsSound, sound_fault, space_fault}
 use Rattle.gd_format.proofs.Firsts.{or_else-none}
-use Rattle.gd_parts.specs.Parts.{file_header}
-use Rattle.gd_parts.proofs.Lists.{bool_cases}
-use Rattle.gd_laws.specs.Lookup.{index_of, lookup, slot_records, value_at}
-use Rattle.gd_laws.specs.Maps.{PairMap, pair_map}
-use Rattle.gd_laws.specs.Overflow.{is_close, is_near}
-use Rattle.gd_laws.proofs.Find.{absent_by_count}
-use Rattle.gd_laws.proofs.Lookup.{index_below, lookup_exact}
-use Rattle.gd_laws.proofs.Maps.{by_lookup}
-use Rattle.gd_laws.proofs.Overflow.{overflow_law}
+use Rattle.gd_file_laws.specs.Parts.{file_header}
+use Rattle.gd_file_laws.proofs.Lists.{bool_cases}
+use Rattle.gd_map_laws.specs.Lookup.{index_of, lookup, slot_records, value_at}
+use Rattle.gd_map_laws.specs.Maps.{PairMap, pair_map}
+use Rattle.gd_map_laws.specs.Overflow.{is_close, is_near}
+use Rattle.gd_map_laws.proofs.Find.{absent_by_count}
+use Rattle.gd_map_laws.proofs.Lookup.{index_below, lookup_exact}
+use Rattle.gd_map_laws.proofs.Maps.{by_lookup}
+use Rattle.gd_map_laws.proofs.Overflow.{overflow_law}
 use Rattle.gd_lookup.specs.Finding.{key_slots}
 use Rattle.gd_lookup.specs.Open as asking
 use Rattle.gd_lookup.proofs.Blocks.{open_header, entry_is}
 use Rattle.gd_vault.specs.Content.{File}
 use Rattle.gd_vault.specs.Frame.{Within}
 use Rattle.gd_vault.specs.Views.{View, HasFile, IsAt, OnlyAsks, content_of}
-use Rattle.gd_verify.specs.Asks.{is_of_file}
-use Rattle.gd_verify.proofs.Refusals.{refuses}
+use Rattle.gd_readable.specs.Asks.{is_of_file}
+use Rattle.gd_readable.proofs.Refusals.{refuses}
 use Rattle.gd_change.specs.Calls.{CanChange, Changes, Goes}
 use Rattle.gd_change.specs.Open as change
 use Rattle.gd_change.proofs.Gone.{open_value}

@@ -11,11 +11,11 @@ use Rattle.gd_grow.specs.Refusals.{is_growth_error}
 use Rattle.gd_format.specs.File.{block_of, records}
 use Rattle.gd_format.specs.Sound.{lost_total}
 use Rattle.gd_format.specs.Slots.{count, is_full}
-use Rattle.gd_parts.specs.Parts.{file_header}
+use Rattle.gd_file_laws.specs.Parts.{file_header}
 use Rattle.gd_lookup.specs.Finding.{key_slots}
 use Rattle.gd_store.specs.Replies.{value_of}
-use Rattle.gd_laws.specs.Lookup.{index_of}
-use Rattle.gd_laws.specs.Maps.{PairMap, pair_map}
+use Rattle.gd_map_laws.specs.Lookup.{index_of}
+use Rattle.gd_map_laws.specs.Maps.{PairMap, pair_map}
 use Rattle.gd_space.specs.Sizes.{largest}
 use Rattle.gd_vault.specs.Views.{View}
 use Rattle.gd_change.specs.Calls.{Goes}

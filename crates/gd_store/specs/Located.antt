@@ -6,7 +6,7 @@ use Rattle.gd_format.specs.Field.{bytes_at}
 use Rattle.gd_format.specs.HeaderFault.{natural}
 use Rattle.gd_format.specs.Bucket.{Bucket, bucket_at}
 use Rattle.gd_format.specs.File.{entry_at}
-use Rattle.gd_laws.specs.Lookup.{index_of}
+use Rattle.gd_map_laws.specs.Lookup.{index_of}
 use Rattle.gd_lookup.specs.Finding.{IsKeyAbsent, IsKeyBucket, IsKeySlot}
 
 -- the slot at the place is that of the key, or no slot is

@@ -5,7 +5,7 @@ ghost use Rattle.std.specs.FinMap.{remove};
 ghost use Rattle.gd_base.specs.Causes.{Rose};
 ghost use Rattle.gd_change.specs.Open.{slot_size};
 ghost use Rattle.gd_format.specs.File.{records};
-ghost use Rattle.gd_laws.specs.Maps.{pair_map};
+ghost use Rattle.gd_map_laws.specs.Maps.{pair_map};
 ghost use Rattle.gd_space.specs.Effect.{WritesAtMost};
 ghost use Rattle.gd_vault.specs.Frame.{Within, OneFile, NoName};
 ghost use Rattle.gd_vault.specs.Views.{HasFile, OnlyAsks};

@@ -15,7 +15,7 @@ ghost use Rattle.gd_vault.specs.Changes.{Changed};
 ghost use Rattle.gd_vault.specs.Events.Call.{Sync};
 ghost use Rattle.gd_vault.specs.Frame.{Within, OneFile, NoName};
 ghost use Rattle.gd_vault.specs.Views.{HasFile, IsAt, OnlyAsks, content_of};
-ghost use Rattle.gd_verify.specs.Asks.{Refuses};
+ghost use Rattle.gd_readable.specs.Asks.{Refuses};
 ghost use Rattle.gd_store.specs.Opened.{Fits, IsAsked, IsCleared, IsNamed, OnFile, OpenedAs, StandsFor, fault_for, open_due};
 
 use crate::access::Access;
@@ -23,10 +23,10 @@ use crate::store::Store;
 use gd_base::{DbError, Format, Name, Which};
 use gd_create::{block_for, make_file, new_header};
 use gd_format::Header;
-use gd_sound::sound;
+use gd_readable::readable;
 use gd_space::{Space, SpaceError};
 use gd_vault::{CreateError, FileId, Mode, Vault};
-use gd_verify::readable;
+use gd_verify::sound;
 use std::alloc::Global;
 
 // The file for which a name stands.

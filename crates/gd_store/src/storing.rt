@@ -7,8 +7,8 @@ ghost use Rattle.gd_format.specs.File.{records};
 ghost use Rattle.gd_format.specs.Hash.{hash_of};
 ghost use Rattle.gd_format.specs.HeaderFault.{dir_size_of};
 ghost use Rattle.gd_format.specs.Slots.{count, is_full};
-ghost use Rattle.gd_laws.specs.Maps.{pair_map};
-ghost use Rattle.gd_laws.specs.Overflow.{is_close};
+ghost use Rattle.gd_map_laws.specs.Maps.{pair_map};
+ghost use Rattle.gd_map_laws.specs.Overflow.{is_close};
 ghost use Rattle.gd_vault.specs.Content.{File};
 ghost use Rattle.gd_vault.specs.Frame.{Within, OneFile, NoName};
 ghost use Rattle.gd_vault.specs.Views.{HasFile, IsAt, OnlyAsks};
@@ -35,7 +35,7 @@ use gd_layout::{Bucket, full_count};
 use gd_vault::Vault;
 
 // Is a slot full, with a hash that has the same first 24 bits?
-#[tactic(auto, unfolding(gd_laws::specs::Overflow::have_top))]
+#[tactic(auto, unfolding(gd_map_laws::specs::Overflow::have_top))]
 fn is_close(slot: &Slot, hash: u32) -> bool
     ensures { result ≡ is_close hash slot.now }
 {

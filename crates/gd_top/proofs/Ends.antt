@@ -10,7 +10,7 @@ use Rattle.gd_base.specs.declared.errors.DbError.TheVariants.{VaultFault, OutOfM
 use Rattle.gd_vault.specs.Content.{File, Content}
 use Rattle.gd_vault.specs.Views.{Told, View, IsAt, content_of}
 use Rattle.gd_format.specs.File.{file_fault}
-use Rattle.gd_verify.specs.Asks.{RefusesFile, RefusesWalk}
+use Rattle.gd_readable.specs.Asks.{RefusesFile, RefusesWalk}
 use Rattle.gd_top.specs.Words.{Text}
 use Rattle.gd_top.specs.Dump.{AtFile, Breaks, EndsAt, EndsFor, bytes_of, dump_of, fault_of, text_of}
 use Rattle.gd_top.specs.declared.ending.Ending.{Ending}

@@ -2,7 +2,7 @@
 use Rattle.std.proofs.Common.{◌≡◌, ◌≢◌, ◌⊎◌, ℕ, refl, inl, inr}
 use Rattle.gd_base.specs.declared.errors.DbError.{DbError}
 use Rattle.gd_base.specs.declared.errors.DbError.TheVariants.{Absent, BlockSize, ShortFile, BadMagic, ByteSwapped, WrongOffset, BadHeader, BadDirEntry, BadBucket, BadHashTable, BadHashEntry, BadAvail, NeedRecovery, ReaderCant, ItemNotFound, CannotReplace, DirOverflow, TooLarge, FileFull, Exists, InUse, NotNumsync, AlreadyAtomic, SameName, InEpoch, NotOpen, VaultFault, ClockFault, OutOfMemory, ClockStood}
-use Rattle.gd_verify.specs.Asks.{Refuses}
+use Rattle.gd_readable.specs.Asks.{Refuses}
 
 pub told_refusal : (e : DbError) (fault refusal : Type 0) → Refuses e fault refusal → e ≢ OutOfMemory → refusal ⊎ ((e ≡ VaultFault) × fault)
 told_refusal Absent fault refusal h other = inl h

@@ -9,15 +9,15 @@ ghost use Rattle.gd_format.specs.HeaderFault.{header_of};
 ghost use Rattle.gd_format.specs.Headers.{IsHeader};
 ghost use Rattle.gd_format.specs.File.{file_fault, front_of, records};
 ghost use Rattle.gd_dump.specs.Ascii.{ascii_text, pairs_text};
-ghost use Rattle.gd_verify.specs.Standing.{StandsIn, left_of, slots_of_walk};
+ghost use Rattle.gd_readable.specs.Standing.{StandsIn, left_of, slots_of_walk};
 ghost use Rattle.gd_top.specs.Dump.{AtFile, Breaks, EndsAt, EndsFor, dump_of};
 
 use crate::ending::{Ending, refused};
 use gd_base::{DbError, Format, Name, Page, Sink, flush};
 use gd_dump::AsciiWriter;
 use gd_format::Header;
+use gd_readable::{Walk, readable};
 use gd_vault::{FileId, Vault};
-use gd_verify::{Walk, readable};
 use std::alloc::Global;
 
 // Puts the records that a walk has still to give behind what waits, and answers how many they are.

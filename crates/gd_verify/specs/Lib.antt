@@ -1,4 +1,4 @@
-pub mod Asks
-pub mod Checks
-pub mod Left
-pub mod Standing
+pub mod Known
+pub mod Refused
+pub mod Apart
+pub mod Fronts

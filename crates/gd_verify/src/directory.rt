@@ -1,170 +1,157 @@
-//! The directory of a file, with its buckets.
+//! The addresses of the buckets of a readable file.
 
-ghost use Rattle.std.specs.Prelude.{◌≡◌, ℕ, ◌+◌, ◌-◌, ◌*◌, ◌<◌, ◌≤◌, ◌^◌, true, length, IfOk, IfErr, IfNone, IfSome, Some, None, pos, false};
-ghost use Rattle.gd_format.specs.First.{first_below};
+ghost use Rattle.std.specs.Prelude.{◌≡◌, ℕ, ◌+◌, ◌*◌, ◌<◌, ◌≤◌, ◌^◌, true, false, List, [], ◌∷◌, ◌++◌, length, IfOk, IfErr, IfNone, IfSome, negsuc};
+ghost use Rattle.std.specs.List.{All};
+ghost use Rattle.gd_format.specs.declared.Header.{Header as AnyHeader};
 ghost use Rattle.gd_format.specs.HeaderFault.{natural};
-ghost use Rattle.gd_format.specs.File.{are_counts_right, bits_at, block_of, dir_fault, entry_at, entry_fault, is_block_in, is_first, run_at, run_fault};
-ghost use Rattle.gd_verify.specs.Checks.{IsHeaderIn, SeesPlaces};
+ghost use Rattle.gd_format.specs.Headers.{IsHeader};
+ghost use Rattle.gd_format.specs.Bucket.{is_from_zero};
+ghost use Rattle.gd_format.specs.File.{entries_of, places_of};
+ghost use Rattle.gd_readable.specs.Asks.{kept_of, bytes_in, is_there, Tells, IsCause, is_of_file};
+ghost use Rattle.gd_verify.specs.Known.{IsReadBy, IsAddress, IsPlaced, IsPage, places_below};
 
-use crate::keys::slots_refusal;
-use gd_base::{DbError, OutOfMemory};
+use gd_base::DbError;
 use gd_format::Header;
-use gd_layout::{Native, i64_from};
+use gd_layout::Native;
+use gd_readable::{Stopped, fill};
+use gd_vault::{FileId, Vault};
 use std::alloc::Global;
-use std::collections::HashSet;
 
-/// The entry of the directory with an index.
-#[tactic(auto, unfolding(gd_format::specs::File::entry_at))]
-pub fn entry_from(file: &[u8], header: &Header, i: u64) -> i64
-    requires header { IsHeaderIn header.now (length file.now) }
-    requires within { i < 2 ^ header.now.dir_bits }
-    ensures { result ≡ entry_at file.now header.now i }
+// Puts the address of an entry last, unless the entry before is the same. False where the entry is below 0.
+fn push_place(entry: i64, before: i64, places: &mut Vec<u64>) -> Result<bool, Stopped>
+    requires low { All IsAddress places.old.items }
+    ensures failed { IfErr result (λ e. e ≡ Stopped.NoMemory) }
+    ensures low { IfOk result (λ _. All IsAddress places.new.items) }
+    ensures below { IfOk result (λ b. b ≡ false → is_from_zero entry ≡ false) }
+    ensures again { IfOk result (λ b. b ≡ true → entry ≡ before → places.new.items ≡ places.old.items) }
+    ensures more { IfOk result (λ b. b ≡ true → (entry ≡ before → ⊥) → places.new.items ≡ places.old.items ++ natural entry ∷ []) }
 {
-    i64_from(file, (header.dir + 8 * i) as usize)
+    if entry < 0 {
+        return Ok(false);
+    }
+    if entry == before {
+        return Ok(true);
+    }
+    match places.push(entry.cast_unsigned()) {
+        Ok(()) => Ok(true),
+        Err(_) => Err(Stopped::NoMemory),
+    }
 }
 
-// The first entry of a run of another address.
-#[tactic(auto, unfolding(gd_format::specs::File::run_fault), using(gd_format::proofs::Firsts::first_below_more, gd_format::proofs::Firsts::first_below_found))]
-fn other_in_run(file: &[u8], header: &Header, i: u64, run: u64) -> Option<DbError>
-    requires header { IsHeaderIn header.now (length file.now) }
-    requires within { i + run ≤ 2 ^ header.now.dir_bits }
-    requires some { 0 < run }
-    ensures { result ≡ first_below run (run_fault file.now header.now i) }
+// Puts the addresses of some entries last, each where the entry before is another one, and answers the last entry. None
+// where an entry is below 0.
+fn push_places(
+    entries: &[u8],
+    count: u64,
+    before: i64,
+    places: &mut Vec<u64>,
+) -> Result<Option<i64>, Stopped>
+    requires size { 8 * count ≤ length entries.now }
+    requires low { All IsAddress places.old.items }
+    ensures failed { IfErr result (λ e. e ≡ Stopped.NoMemory) }
+    ensures low { IfOk result (λ _. All IsAddress places.new.items) }
+    ensures below { IfOk result (λ r. IfNone r ((file : List ℕ) (h : AnyHeader) (i : ℕ) → IsReadBy file h → IsPage file h i count entries.now → ⊥)) }
+    ensures placed { IfOk result (λ r. IfSome r (λ last. (file : List ℕ) (h : AnyHeader) (i : ℕ) → IsReadBy file h → IsPage file h i count entries.now → IsPlaced file h i before places.old.items → IsPlaced file h (i + count) last places.new.items)) }
 {
-    let own = entry_from(file, header, i);
-    for j in 0..run {
-        if entry_from(file, header, i + j) != own {
-            return Some(DbError::BadDirEntry(i + j));
+    let mut last = before;
+    for e in 0..count {
+        let entry = Native::address(entries, e as usize);
+        if !push_place(entry, last, places)? {
+            return Ok(None);
         }
+        last = entry;
     }
-    None
+    Ok(Some(last))
 }
 
-// The address of the bucket of an entry, where it lies in the file.
-#[tactic(auto, unfolding(gd_format::specs::File::is_block_in))]
-fn block_place(file: &[u8], header: &Header, i: u64) -> Option<u64>
-    requires header { IsHeaderIn header.now (length file.now) }
-    requires within { i < 2 ^ header.now.dir_bits }
-    ensures none { IfNone result (is_block_in file.now header.now i ≡ false) }
-    ensures some { IfSome result (λ at. (is_block_in file.now header.now i ≡ true) × (entry_at file.now header.now i ≡ pos at)) }
-    ensures fits { IfSome result (λ at. at + header.now.block ≤ length file.now) }
-{
-    let len = file.len() as u64;
-    let entry = entry_from(file, header, i);
-    let block = u64::from(header.block);
-    if block > len || entry < 0 || entry.cast_unsigned() > len - block {
-        return None;
-    }
-    Some(entry.cast_unsigned())
-}
-
-// The block of the bucket of an entry, whose address is given.
-#[tactic(auto, unfolding(gd_format::specs::File::block_of))]
-pub fn block_from<'a>(file: &'a [u8], header: &Header, i: u64, at: u64) -> &'a [u8]
-    requires entry { entry_at file.now header.now i ≡ pos at }
-    requires fits { at + header.now.block ≤ length file.now }
-    ensures block { result.now ≡ block_of file.now header.now i }
-    ensures size { length result.now ≡ header.now.block }
-{
-    &file[at as usize..at as usize + header.block as usize]
-}
-
-// How many entries the bucket of a block has, where its counts are in range.
-#[tactic(auto, unfolding(gd_format::specs::File::are_counts_right), using(crate::proofs::Runs::run_range))]
-pub fn run_of(header: &Header, block: &[u8]) -> Option<u64>
-    requires size { 112 ≤ length block.now }
-    requires bits { header.now.dir_bits ≤ 24 }
-    ensures none { IfNone result (are_counts_right header.now block.now ≡ false) }
-    ensures some { IfSome result (λ r. (are_counts_right header.now block.now ≡ true) × (r ≡ 2 ^ (header.now.dir_bits - bits_at block.now)) × (bits_at block.now ≤ header.now.dir_bits) × (0 < r) × (r ≤ 2 ^ 24)) }
-{
-    let c = Native::counts(block);
-    if c.free < 0 || c.free > 6 || c.bits < 0 {
-        return None;
-    }
-    let bits = c.bits.cast_unsigned();
-    if bits > header.dir_bits {
-        return None;
-    }
-    Some(1 << (header.dir_bits - bits))
-}
-
-// Is the address of the entry i that of no entry before?
-#[tactic(auto, unfolding(gd_format::specs::File::is_first), using(crate::proofs::Seen::first_by_set))]
-fn is_new_place(
-    places: &mut HashSet<u64>,
-    file: &[u8],
+// Reads some entries, and puts their addresses last.
+fn next_page<V: Vault>(
+    vault: &mut V,
+    f: FileId,
     header: &Header,
     i: u64,
-    at: u64,
-) -> Result<bool, OutOfMemory>
-    requires entry { entry_at file.now header.now i ≡ pos at }
-    requires seen { SeesPlaces places.old file.now header.now i }
-    ensures first { IfOk result (λ b. b ≡ is_first file.now header.now i) }
-    ensures seen { IfOk result (λ _. (r : ℕ) → 0 < r → first_below r (run_fault file.now header.now i) ≡ None → SeesPlaces places.new file.now header.now (i + r)) }
+    count: u64,
+    before: i64,
+    page: &mut [u8],
+    places: &mut Vec<u64>,
+) -> Result<Option<i64>, Stopped>
+    requires there { is_there (kept_of (V.view_of vault.old)) f.0 ≡ true }
+    requires header { IsHeader header.now }
+    requires size { length page.old ≡ 4096 }
+    requires few { count ≤ 512 }
+    requires within { i + count ≤ entries_of header.now }
+    requires low { All IsAddress places.old.items }
+    ensures same { kept_of (V.view_of vault.new) ≡ kept_of (V.view_of vault.old) }
+    ensures later { (V.view_of vault.old).faults ≤ (V.view_of vault.new).faults }
+    ensures failed { IfErr result (λ e. IsCause e (V.view_of vault.old).faults (V.view_of vault.new).faults) }
+    ensures low { IfOk result (λ _. All IsAddress places.new.items) }
+    ensures below { IfOk result (λ r. IfNone r (Tells (bytes_in (kept_of (V.view_of vault.old)) f.0) (λ file. IsReadBy file header.now → ⊥))) }
+    ensures placed { IfOk result (λ r. IfSome r (λ last. Tells (bytes_in (kept_of (V.view_of vault.old)) f.0) (λ file. IsReadBy file header.now → IsPlaced file header.now i before places.old.items → IsPlaced file header.now (i + count) last places.new.items))) }
 {
-    match places.insert(at) {
-        Ok(new) => Ok(new),
-        Err(_) => Err(OutOfMemory),
+    let entries = &mut page[..8 * count as usize];
+    if !fill(vault, f, header.dir + 8 * i, entries)? {
+        return Ok(None);
     }
+    let last = push_places(entries, count, before, places)?;
+    Ok(last)
 }
 
-// How many entries the run of an entry has that no earlier run covers, or its refusal.
-#[tactic(auto, unfolding(gd_format::specs::File::entry_fault, gd_format::specs::File::run_at, gd_format::specs::File::block_of), using(crate::proofs::Runs::run_ends))]
-fn entry_run(
+// The addresses of the buckets, by a buffer for a page of the directory.
+#[tactic(auto, using(gd_readable::proofs::Asks::cause_later, gd_readable::proofs::Runs::run_range))]
+fn read_places<V: Vault>(
     alloc: Global,
-    places: &mut HashSet<u64>,
-    file: &[u8],
+    vault: &mut V,
+    f: FileId,
     header: &Header,
-    i: u64,
-) -> Result<Result<u64, DbError>, OutOfMemory>
-    requires header { IsHeaderIn header.now (length file.now) }
-    requires within { i < 2 ^ header.now.dir_bits }
-    requires seen { SeesPlaces places.old file.now header.now i }
-    ensures run { IfOk result (λ r. IfOk r (λ run. (entry_fault file.now header.now i ≡ None) × (run ≡ run_at file.now header.now i) × (0 < run) × (run ≤ 2 ^ 24))) }
-    ensures seen { IfOk result (λ r. IfOk r (λ run. SeesPlaces places.new file.now header.now (i + run))) }
-    ensures refused { IfOk result (λ r. IfErr r (λ e. entry_fault file.now header.now i ≡ Some e)) }
+    page: &mut [u8],
+) -> Result<Result<Vec<u64>, DbError>, Stopped>
+    requires there { is_there (kept_of (V.view_of vault.old)) f.0 ≡ true }
+    requires header { IsHeader header.now }
+    requires size { length page.old ≡ 4096 }
+    ensures same { kept_of (V.view_of vault.new) ≡ kept_of (V.view_of vault.old) }
+    ensures later { (V.view_of vault.old).faults ≤ (V.view_of vault.new).faults }
+    ensures failed { IfErr result (λ e. IsCause e (V.view_of vault.old).faults (V.view_of vault.new).faults) }
+    ensures low { IfOk result (λ r. IfOk r (λ v. All IsAddress v.items)) }
+    ensures kind { IfOk result (λ r. IfErr r (λ e. is_of_file e ≡ true)) }
+    ensures refused { IfOk result (λ r. IfErr r (λ e. Tells (bytes_in (kept_of (V.view_of vault.old)) f.0) (λ file. IsReadBy file header.now → ⊥))) }
+    ensures places { IfOk result (λ r. IfOk r (λ v. Tells (bytes_in (kept_of (V.view_of vault.old)) f.0) (λ file. IsReadBy file header.now → v.items ≡ places_of file header.now))) }
 {
-    let Some(at) = block_place(file, header, i) else {
-        return Ok(Err(DbError::BadDirEntry(i)));
-    };
-    let block = block_from(file, header, i, at);
-    if !is_new_place(places, file, header, i, at)? {
-        return Ok(Err(DbError::BadDirEntry(i)));
-    }
-    let Some(run) = run_of(header, block) else {
-        return Ok(Err(DbError::BadBucket(at)));
-    };
-    if i % run != 0 {
-        return Ok(Err(DbError::BadDirEntry(i)));
-    }
-    if let Some(e) = other_in_run(file, header, i, run) {
-        return Ok(Err(e));
-    }
-    let wrong = slots_refusal(alloc, file, block, header.elems, at, i / run)?;
-    match wrong {
-        Some(e) => Ok(Err(e)),
-        None => Ok(Ok(run)),
-    }
-}
-
-/// The first refusal of the directory and its buckets.
-#[tactic(auto, unfolding(gd_format::specs::File::dir_fault), using(crate::proofs::Steps::walk_more, crate::proofs::Steps::walk_stops, crate::proofs::Runs::run_range))]
-pub fn dir_refusal(
-    alloc: Global,
-    file: &[u8],
-    header: &Header,
-) -> Result<Option<DbError>, OutOfMemory>
-    requires { IsHeaderIn header.now (length file.now) }
-    ensures { IfOk result (λ r. r ≡ dir_fault file.now header.now) }
-{
+    let mut places = Vec::new(alloc);
     let n = 1u64 << header.dir_bits;
-    let mut places = HashSet::new(alloc);
+    let mut before = -1;
     let mut i = 0;
-    'runs: while i < n {
-        match entry_run(alloc, &mut places, file, header, i)? {
-            Ok(run) => i += run,
-            Err(e) => return Ok(Some(e)),
-        }
+    'pages: while i < n {
+        let count = (n - i).min(512);
+        let next = next_page(vault, f, header, i, count, before, page, &mut places)?;
+        let Some(last) = next else {
+            return Ok(Err(DbError::BadDirEntry(i)));
+        };
+        before = last;
+        i += count;
     }
-    Ok(None)
+    Ok(Ok(places))
+}
+
+/// The addresses of the buckets in the order of the directory, which is read page by page. Over a file that is not
+/// readable it may answer a refusal.
+pub fn bucket_places<V: Vault>(
+    alloc: Global,
+    vault: &mut V,
+    f: FileId,
+    header: &Header,
+) -> Result<Result<Vec<u64>, DbError>, Stopped>
+    requires there { is_there (kept_of (V.view_of vault.old)) f.0 ≡ true }
+    requires header { IsHeader header.now }
+    ensures same { kept_of (V.view_of vault.new) ≡ kept_of (V.view_of vault.old) }
+    ensures later { (V.view_of vault.old).faults ≤ (V.view_of vault.new).faults }
+    ensures failed { IfErr result (λ e. IsCause e (V.view_of vault.old).faults (V.view_of vault.new).faults) }
+    ensures low { IfOk result (λ r. IfOk r (λ v. All IsAddress v.items)) }
+    ensures kind { IfOk result (λ r. IfErr r (λ e. is_of_file e ≡ true)) }
+    ensures refused { IfOk result (λ r. IfErr r (λ e. Tells (bytes_in (kept_of (V.view_of vault.old)) f.0) (λ file. IsReadBy file header.now → ⊥))) }
+    ensures places { IfOk result (λ r. IfOk r (λ v. Tells (bytes_in (kept_of (V.view_of vault.old)) f.0) (λ file. IsReadBy file header.now → v.items ≡ places_of file header.now))) }
+{
+    let Ok(mut page) = vec![in alloc; 0u8; 4096] else {
+        return Err(Stopped::NoMemory);
+    };
+    read_places(alloc, vault, f, header, &mut page)
 }

@@ -1,22 +1,22 @@
-//! Checks a database file, block by block or read whole, and walks over its records.
+//! May a database file be opened, to read or to write? `readable` is checked by gd_readable, which stands below and has the
+//! walk over the records too; `sound` is checked here: a readable file whose free space is right, and of whose extents
+//! none meets another.
 #![tactic(auto)]
 
-mod checking;
+mod apart;
+mod buckets;
 mod directory;
-mod keys;
-mod reading;
-mod records;
-mod slots;
+mod free;
+mod held;
+mod meeting;
+#[cfg(test)]
+mod meeting_tests;
 #[cfg(test)]
 mod small_vault;
-mod stored;
+mod sounding;
+mod stack;
 #[cfg(test)]
 mod tests;
-mod walking;
-mod whole;
 
-pub use crate::checking::readable;
-pub use crate::reading::{Stopped, file_len, fill, read_some};
-pub use crate::records::Records;
-pub use crate::walking::Walk;
-pub use crate::whole::{check, file_refusal};
+pub use crate::sounding::sound;
+pub use gd_readable::{Walk, readable};

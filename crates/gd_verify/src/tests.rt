@@ -1,51 +1,12 @@
 use crate::small_vault::SmallVault;
-use crate::{Records, Walk, check, file_refusal, readable};
+use crate::sound;
 use gd_base::DbError;
 use gd_vault::FileId;
 use std::alloc::Global;
 use std::process::Abort;
 use std::test::Fail;
 
-const ROOM: usize = 2304;
-
-// Slots of the keys db, dd, A----z, a----j and k, whose hashes GNU dbm gives, and of a record without a byte.
-const LAST: [u8; 24] = [
-    15, 137, 4, 41, 100, 98, 0, 0, 0, 6, 0, 0, 0, 0, 0, 0, 2, 0, 0, 0, 0, 0, 0, 0,
-];
-
-const FIRST: [u8; 24] = [
-    207, 35, 152, 26, 100, 100, 0, 0, 2, 6, 0, 0, 0, 0, 0, 0, 2, 0, 0, 0, 1, 0, 0, 0,
-];
-
-const ONE: [u8; 24] = [
-    30, 246, 55, 111, 65, 45, 45, 45, 5, 6, 0, 0, 0, 0, 0, 0, 6, 0, 0, 0, 0, 0, 0, 0,
-];
-
-const OTHER: [u8; 24] = [
-    30, 246, 55, 111, 97, 45, 45, 45, 11, 6, 0, 0, 0, 0, 0, 0, 6, 0, 0, 0, 1, 0, 0, 0,
-];
-
-const AGAIN: [u8; 24] = [
-    30, 246, 55, 111, 65, 45, 45, 45, 5, 6, 0, 0, 0, 0, 0, 0, 6, 0, 0, 0, 1, 0, 0, 0,
-];
-
-const NOWHERE: [u8; 24] = [
-    57, 48, 0, 0, 255, 255, 255, 255, 255, 255, 255, 255, 255, 255, 255, 127, 0, 0, 0, 0, 0, 0, 0,
-    0,
-];
-
-const K: [u8; 24] = [
-    23, 131, 9, 27, 107, 0, 0, 0, 0, 6, 0, 0, 0, 0, 0, 0, 1, 0, 0, 0, 1, 0, 0, 0,
-];
-
-const K_BEHIND: [u8; 24] = [
-    23, 131, 9, 27, 107, 0, 0, 0, 0, 8, 0, 0, 0, 0, 0, 0, 1, 0, 0, 0, 1, 0, 0, 0,
-];
-
-// The records of the first four, and a count of two.
-const TEXT: (usize, &[u8]) = (1536, b"dbdd!A----za----j!");
-
-const TWO: (usize, &[u8]) = (1132, &[2]);
+const ROOM: usize = 2048;
 
 // What a file is answered, after changes of some of its bytes.
 #[derive(Clone, Copy)]
@@ -54,7 +15,6 @@ struct Row<'a> {
     edits: &'a [(usize, &'a [u8])],
     len: usize,
     refusal: Option<DbError>,
-    records: &'a [(&'a [u8], &'a [u8])],
 }
 
 fn put(rt: &impl Abort, file: &mut [u8], at: usize, bytes: &[u8]) {
@@ -62,75 +22,31 @@ fn put(rt: &impl Abort, file: &mut [u8], at: usize, bytes: &[u8]) {
     file[at..at + bytes.len()].copy_from_slice(bytes);
 }
 
-// An empty bucket of a block of 512 bytes, with a free extent.
-fn put_bucket(rt: &impl Abort, file: &mut [u8], at: usize) {
+// The head of a new file of block 512, before its table of free space.
+const HEAD: [u8; 34] = [
+    0xcf, 0x9a, 0x57, 0x13, 0, 2, 0, 0, 0, 2, 0, 0, 0, 0, 0, 0, 0, 2, 0, 0, 6, 0, 0, 0, 0, 2, 0, 0,
+    0x10, 0, 0, 0, 0, 8,
+];
+
+// A new file of block 512, of which 1,536 bytes are written.
+fn new_file(rt: &impl Abort) -> [u8; ROOM] {
+    let mut file = [0; ROOM];
+    put(rt, &mut file, 0, &HEAD);
+    put(rt, &mut file, 40, &[0x1c]);
+    for i in 0..64usize {
+        put(rt, &mut file, i.wrapping_mul(8).wrapping_add(512), &[0, 4]);
+    }
     put(
         rt,
-        file,
-        at,
+        &mut file,
+        1024,
         &[1, 0, 0, 0, 0, 0, 0, 0, 0, 2, 0, 0, 0, 0, 0, 0, 0, 6],
     );
     for s in 0..16usize {
-        put(rt, file, at.wrapping_add(112 + 24 * s), &[0xff; 4]);
+        let slot = s.wrapping_mul(24).wrapping_add(1136);
+        put(rt, &mut file, slot, &[0xff; 4]);
     }
-}
-
-fn put_entries(rt: &impl Abort, file: &mut [u8], from: usize, to: usize, address: &[u8]) {
-    for i in from..to {
-        put(rt, file, i.wrapping_mul(8).wrapping_add(512), address);
-    }
-}
-
-// A new standard file of block 512, whose first 1,536 bytes it is.
-fn new_file(rt: &impl Abort) -> [u8; ROOM] {
-    let mut file = [0; ROOM];
-    let head = [
-        0xcf, 0x9a, 0x57, 0x13, 0, 2, 0, 0, 0, 2, 0, 0, 0, 0, 0, 0, 0, 2, 0, 0, 6, 0, 0, 0, 0, 2,
-        0, 0, 0x10, 0, 0, 0, 0, 8, 0, 0, 0, 0, 0, 0, 0x1c,
-    ];
-    put(rt, &mut file, 0, &head);
-    put_entries(rt, &mut file, 0, 64, &[0, 4]);
-    put_bucket(rt, &mut file, 1024);
     file
-}
-
-// The file of 1,538 bytes with the record `k`, `v`.
-fn one_record(rt: &impl Abort) -> [u8; ROOM] {
-    let mut file = new_file(rt);
-    put(rt, &mut file, 1032, &[0xfe, 1, 0, 0, 0, 0, 0, 0, 2, 6]);
-    put(rt, &mut file, 1132, &[1]);
-    put(rt, &mut file, 1304, &K);
-    put(rt, &mut file, 1536, b"kv");
-    file
-}
-
-// A new file with a second bucket at 1,536, for the upper half of the directory, and `kv` at 2,048.
-fn two_buckets(rt: &impl Abort) -> [u8; ROOM] {
-    let mut file = new_file(rt);
-    put_bucket(rt, &mut file, 1536);
-    put(rt, &mut file, 1128, &[1]);
-    put(rt, &mut file, 1640, &[1]);
-    put_entries(rt, &mut file, 32, 64, &[0, 6]);
-    put(rt, &mut file, 2048, b"kv");
-    file
-}
-
-fn has_records(rt: &impl Abort, alloc: Global, file: &[u8], row: &Row) {
-    match check(alloc, file) {
-        Ok(Ok(header)) => {
-            let mut records = Records::start(file, &header);
-            for pair in row.records {
-                assert_eq!(rt; records.next(), Some(*pair), "{}", row.name);
-            }
-            assert!(rt;
-                records.next().is_none() && records.next().is_none(),
-                "{}",
-                row.name
-            );
-        }
-        Ok(Err(refusal)) => assert_eq!(rt; Some(refusal), row.refusal, "{}", row.name),
-        Err(_) => assert!(rt; false, "out of memory"),
-    }
 }
 
 fn vault_of(rt: &impl Abort, alloc: Global, file: &[u8], reads: u64) -> Option<SmallVault> {
@@ -147,42 +63,15 @@ fn vault_of(rt: &impl Abort, alloc: Global, file: &[u8], reads: u64) -> Option<S
     }
 }
 
-fn walk_gives(rt: &impl Abort, alloc: Global, vault: &mut SmallVault, row: &Row) {
-    match readable(alloc, vault, FileId(0)) {
-        Ok(header) => {
-            let Ok(mut walk) = Walk::start(alloc, vault, FileId(0), &header) else {
-                return assert!(rt; false, "{}", row.name);
-            };
-            for pair in row.records {
-                let Ok(Some((key, value))) = walk.next(vault) else {
-                    return assert!(rt; false, "{}", row.name);
-                };
-                assert!(rt; key.as_slice() == pair.0, "{}", row.name);
-                assert!(rt; value.as_slice() == pair.1, "{}", row.name);
-            }
-            let end = walk.next(vault).is_ok_and(|next| next.is_none());
-            assert!(rt; end, "{}", row.name);
-            assert!(rt; row.refusal.is_none(), "{}", row.name);
-        }
-        Err(e) => assert_eq!(rt; Some(e), row.refusal, "{}", row.name),
-    }
-}
-
 fn answers(rt: &impl Abort, alloc: Global, base: &[u8; ROOM], row: &Row) {
     let mut file = *base;
     for (at, bytes) in row.edits {
         put(rt, &mut file, *at, bytes);
     }
     assert!(rt; row.len <= ROOM);
-    let file = &file[..row.len];
-    assert!(rt;
-        file_refusal(alloc, file) == Ok(row.refusal),
-        "{}",
-        row.name
-    );
-    has_records(rt, alloc, file, row);
-    if let Some(mut vault) = vault_of(rt, alloc, file, 1 << 20) {
-        walk_gives(rt, alloc, &mut vault, row);
+    if let Some(mut vault) = vault_of(rt, alloc, &file[..row.len], 1 << 20) {
+        let refusal = sound(alloc, &mut vault, FileId(0)).err();
+        assert_eq!(rt; refusal, row.refusal, "{}", row.name);
         assert!(rt; vault.faults == 0);
     }
 }
@@ -193,73 +82,81 @@ fn all_answer(rt: &impl Abort, alloc: Global, base: &[u8; ROOM], rows: &[Row]) {
     }
 }
 
-// A row of a file that is refused.
-fn refused<'a>(
+fn case<'a>(
     name: &'a str,
     edits: &'a [(usize, &'a [u8])],
     len: usize,
-    refusal: DbError,
+    refusal: Option<DbError>,
 ) -> Row<'a> {
     Row {
         name,
         edits,
         len,
-        refusal: Some(refusal),
-        records: &[],
+        refusal,
     }
 }
 
-// A row of a readable file.
-fn has<'a>(
-    name: &'a str,
-    edits: &'a [(usize, &'a [u8])],
-    len: usize,
-    records: &'a [(&'a [u8], &'a [u8])],
-) -> Row<'a> {
-    Row {
-        name,
-        edits,
-        len,
-        refusal: None,
-        records,
-    }
+fn avail(at: u64) -> Option<DbError> {
+    Some(DbError::BadAvail(at))
 }
 
 #[test]
-fn a_new_file_and_records_put_into_it(rt: HostRuntime) -> Result<(), Fail> {
+fn the_table_of_a_new_file(rt: HostRuntime) -> Result<(), Fail> {
+    let behind: [(usize, &[u8]); 4] = [(33, &[0x0a]), (44, &[1]), (56, &[0, 2]), (64, &[0, 8])];
     let rows = [
-        has("new", &[], 1536, &[]),
-        refused("39 bytes", &[], 39, DbError::ShortFile),
-        refused("a directory beyond the end", &[], 1023, DbError::BadHeader),
-        refused(
-            "a bucket beyond the end",
-            &[],
-            1535,
-            DbError::BadDirEntry(0),
+        case("new", &[], 1536, None),
+        case(
+            "next_block 1,024",
+            &[(33, &[4])],
+            1536,
+            Some(DbError::NeedRecovery),
         ),
-        has(
-            "from the last slot to the first",
-            &[TEXT, TWO, (1496, &LAST), (1136, &FIRST)],
-            1541,
-            &[(b"dd", b"!"), (b"db", b"")],
+        case("more than the capacity", &[(44, &[29])], 1536, avail(40)),
+        case("a count below 0", &[(47, &[0x80])], 1536, avail(40)),
+        case("no byte", &[(44, &[1]), (64, &[0, 8])], 1536, avail(40)),
+        case(
+            "a size below 0",
+            &[(44, &[1]), (59, &[0x80])],
+            1536,
+            avail(40),
         ),
-        refused(
-            "not reached from the last slot",
-            &[TEXT, (1132, &[1]), (1136, &FIRST)],
-            1541,
-            DbError::BadHashTable(1024),
+        case(
+            "below 0",
+            &[(44, &[1]), (56, &[1]), (71, &[0x80])],
+            1536,
+            avail(40),
         ),
-        has(
-            "keys of one hash",
-            &[TEXT, TWO, (1472, &ONE), (1496, &OTHER)],
-            1554,
-            &[(b"A----z", b""), (b"a----j", b"!")],
+        case("behind the end of the file", &behind, 1536, None),
+        case("beyond next_block", &behind[1..], 1536, avail(40)),
+        case(
+            "over the bucket",
+            &[(44, &[1]), (56, &[1]), (64, &[0xff, 5])],
+            1536,
+            avail(40),
         ),
-        refused(
-            "equal keys",
-            &[TEXT, TWO, (1472, &ONE), (1496, &AGAIN)],
-            1554,
-            DbError::BadHashEntry(1024, 15),
+        case(
+            "twice free",
+            &[(44, &[1]), (56, &[1]), (64, &[0xff, 7])],
+            1536,
+            avail(1024),
+        ),
+        case(
+            "not readable",
+            &[(33, &[4]), (512, &[3])],
+            1536,
+            Some(DbError::BadDirEntry(0)),
+        ),
+        case(
+            "the first of two",
+            &[(33, &[4]), (44, &[29])],
+            1536,
+            Some(DbError::NeedRecovery),
+        ),
+        case(
+            "the table first",
+            &[(44, &[29]), (48, &[0, 8])],
+            1536,
+            avail(40),
         ),
     ];
     all_answer(&rt, rt.alloc(), &new_file(&rt), &rows);
@@ -267,163 +164,167 @@ fn a_new_file_and_records_put_into_it(rt: HostRuntime) -> Result<(), Fail> {
 }
 
 #[test]
-fn places_of_a_file_of_one_record(rt: HostRuntime) -> Result<(), Fail> {
-    let entry = DbError::BadHashEntry(1024, 7);
-    let kv: &[(&[u8], &[u8])] = &[(b"k", b"v")];
+fn the_stack_of_a_new_file(rt: HostRuntime) -> Result<(), Fail> {
+    let last = u64::MAX / 2 + 1;
+    // A block at 1,536 and none of it free in the bucket.
     let rows = [
-        has("one record", &[], 1538, kv),
-        refused(
-            "a bucket beyond the end",
-            &[(512, &[3, 4])],
-            1538,
-            DbError::BadDirEntry(0),
-        ),
-        refused(
+        case("a block without an extent", &[], 1552, None),
+        case("behind the end", &[(48, &[0, 8])], 1552, avail(2048)),
+        case("its head beyond the end", &[], 1551, avail(1536)),
+        case(
             "an address below 0",
-            &[(519, &[0x80])],
-            1538,
-            DbError::BadDirEntry(0),
+            &[(48, &[0, 0, 0, 0, 0, 0, 0, 0x80])],
+            1552,
+            avail(last),
         ),
-        refused(
-            "a run that is not whole",
-            &[(832, &[1])],
-            1538,
-            DbError::BadDirEntry(40),
+        case("its own next", &[(1544, &[0, 6])], 1552, avail(1536)),
+        case("two blocks", &[(1544, &[0x10, 6])], 1568, None),
+        case(
+            "again",
+            &[(1544, &[0x10, 6]), (1560, &[0, 6])],
+            1568,
+            avail(1536),
         ),
-        refused(
-            "a run without its last entry",
-            &[(1016, &[1])],
-            1538,
-            DbError::BadDirEntry(63),
+        case(
+            "its extents beyond the end",
+            &[(1540, &[1])],
+            1567,
+            avail(1536),
         ),
-        refused(
-            "an address that comes again",
-            &[(1128, &[1])],
-            1538,
-            DbError::BadDirEntry(32),
+        case(
+            "an extent without a byte",
+            &[(1540, &[1])],
+            1568,
+            avail(1536),
         ),
-        refused(
-            "more bits than the directory",
-            &[(1128, &[7])],
-            1538,
-            DbError::BadBucket(1024),
+        case("a count below 0", &[(1543, &[0x80])], 1568, avail(1536)),
+        case(
+            "an extent",
+            &[(1540, &[1]), (1552, &[16]), (1560, &[0x20, 6])],
+            1568,
+            None,
         ),
-        refused(
-            "seven free extents",
-            &[(1024, &[7])],
-            1538,
-            DbError::BadBucket(1024),
+        case(
+            "over itself",
+            &[(1540, &[1]), (1552, &[16]), (1560, &[0x1f, 6])],
+            1568,
+            avail(1536),
         ),
-        refused(
-            "a count that is wrong",
-            &[(1132, &[2])],
-            1538,
-            DbError::BadHashTable(1024),
-        ),
-        refused("a hash that is wrong", &[(1304, &[0x18])], 1538, entry),
-        refused("a hash below 0", &[(1307, &[0x80])], 1538, entry),
-        refused(
-            "a first byte that is wrong",
-            &[(1308, &[0x6c])],
-            1538,
-            entry,
-        ),
-        has("a byte behind a short key", &[(1309, &[0xff])], 1538, kv),
-        refused("a record below 0", &[(1319, &[0x80])], 1538, entry),
-        refused("a record beyond the end", &[(1324, &[2])], 1538, entry),
-        refused("a key of a size below 0", &[(1323, &[0x80])], 1538, entry),
-        refused("a value above the limit", &[(1327, &[0x40])], 1538, entry),
-        refused("a key that is wrong", &[(1536, &[0x6c])], 1538, entry),
-        has(
-            "an empty slot of any content",
-            &[(1140, &[0xff; 20])],
-            1538,
-            kv,
-        ),
-        has(
-            "an empty value, and a record that stands nowhere",
-            &[(1132, &[2]), (1324, &[0]), (1352, &NOWHERE)],
-            1537,
-            &[(b"k", b""), (b"", b"")],
-        ),
-        refused(
-            "a slot that its home does not reach",
-            &[(1304, &[0xff; 4]), (1328, &K)],
-            1538,
-            DbError::BadHashTable(1024),
+        case("over the bucket", &[(48, &[0xf0, 5])], 1536, avail(1520)),
+        case("free in the bucket", &[(1024, &[1])], 1552, avail(1024)),
+        case(
+            "the stack first",
+            &[(48, &[0, 8]), (1024, &[1]), (1032, &[0, 0])],
+            1552,
+            avail(2048),
         ),
     ];
-    all_answer(&rt, rt.alloc(), &one_record(&rt), &rows);
+    let mut base = new_file(&rt);
+    put(&rt, &mut base, 48, &[0, 6]);
+    put(&rt, &mut base, 1024, &[0]);
+    put(&rt, &mut base, 1536, &[28]);
+    all_answer(&rt, rt.alloc(), &base, &rows);
     Ok(())
 }
 
 #[test]
-fn buckets_stand_in_their_runs(rt: HostRuntime) -> Result<(), Fail> {
-    // The first of the 31 bits of the hash of `k` is 0, so that it stands in the lower half.
+fn free_extents_of_a_bucket(rt: HostRuntime) -> Result<(), Fail> {
     let rows = [
-        has("two buckets", &[], 2050, &[]),
-        has(
-            "in the lower half",
-            &[(1132, &[1]), (1304, &K_BEHIND)],
-            2050,
-            &[(b"k", b"v")],
+        case("one record", &[], 1538, None),
+        case("no byte", &[(1032, &[0, 0])], 1538, avail(1024)),
+        case("below 0", &[(1047, &[0x80])], 1538, avail(1024)),
+        case("beyond next_block", &[(1032, &[0xff])], 1538, avail(1024)),
+        case(
+            "over a record",
+            &[(1024, &[2]), (1048, &[1]), (1056, &[1, 6])],
+            1538,
+            avail(1024),
         ),
-        refused(
-            "in the upper half",
-            &[(1644, &[1]), (1816, &K_BEHIND)],
-            2050,
-            DbError::BadHashEntry(1536, 7),
+        case(
+            "over the directory",
+            &[(1024, &[2]), (1048, &[1]), (1056, &[0xff, 3])],
+            1538,
+            avail(1024),
         ),
-        refused(
-            "a run of half the entries",
-            &[(1128, &[2])],
-            2050,
-            DbError::BadDirEntry(16),
+        case(
+            "over the header",
+            &[(1024, &[2]), (1048, &[1])],
+            1538,
+            avail(1024),
         ),
-        refused(
-            "a run of twice the entries",
-            &[(1128, &[0])],
-            2050,
-            DbError::BadDirEntry(32),
+        case(
+            "the record behind next_block",
+            &[(32, &[1, 6])],
+            1538,
+            Some(DbError::NeedRecovery),
         ),
     ];
-    all_answer(&rt, rt.alloc(), &two_buckets(&rt), &rows);
-    let mut uneven = two_buckets(&rt);
-    put_entries(&rt, &mut uneven, 16, 32, &[0, 6]);
-    all_answer(
+    let mut base = new_file(&rt);
+    put(&rt, &mut base, 1032, &[0xfe, 1, 0, 0, 0, 0, 0, 0, 2, 6]);
+    put(&rt, &mut base, 1132, &[1]);
+    put(
         &rt,
-        rt.alloc(),
-        &uneven,
-        &[refused(
-            "a run at no multiple",
-            &[(1128, &[2])],
-            2050,
-            DbError::BadDirEntry(16),
-        )],
+        &mut base,
+        1304,
+        &[
+            23, 131, 9, 27, 107, 0, 0, 0, 0, 6, 0, 0, 0, 0, 0, 0, 1, 0, 0, 0, 1,
+        ],
     );
+    put(&rt, &mut base, 1536, b"kv");
+    all_answer(&rt, rt.alloc(), &base, &rows);
+    Ok(())
+}
+
+#[test]
+fn a_numsync_file(rt: HostRuntime) -> Result<(), Fail> {
+    let mut base = new_file(&rt);
+    put(&rt, &mut base, 0, &[0xd1]);
+    put(&rt, &mut base, 40, &[0]);
+    put(&rt, &mut base, 72, &[0x1a]);
+    let rows = [
+        case("new", &[], 1536, None),
+        case("more than the capacity", &[(76, &[27])], 1536, avail(72)),
+    ];
+    all_answer(&rt, rt.alloc(), &base, &rows);
+    // A block of the stack may have as many extents as the table of the other format.
+    let mut full = base;
+    put(&rt, &mut full, 33, &[0x10]);
+    put(&rt, &mut full, 80, &[0, 6]);
+    put(&rt, &mut full, 1024, &[0]);
+    put(&rt, &mut full, 1536, &[28, 0, 0, 0, 28]);
+    for e in 0..28u8 {
+        let at = usize::from(e).wrapping_mul(16);
+        put(&rt, &mut full, at.wrapping_add(1552), &[1]);
+        put(&rt, &mut full, at.wrapping_add(1560), &[e, 8]);
+    }
+    let rows = [
+        case("28 extents", &[], 2000, None),
+        case("29 extents", &[(1540, &[29])], 2016, avail(1536)),
+        case("two that meet", &[(1576, &[0])], 2000, avail(1536)),
+    ];
+    all_answer(&rt, rt.alloc(), &full, &rows);
     Ok(())
 }
 
 #[test]
 fn each_read_that_fails_is_a_fault_of_the_vault(rt: HostRuntime) -> Result<(), Fail> {
-    let whole = one_record(&rt);
-    let Some(file) = whole.get(..1538) else {
+    let whole = new_file(&rt);
+    let Some(file) = whole.get(..1536) else {
         return Ok(());
     };
-    let mut readable_after = None;
+    let mut sound_after = None;
     for reads in 0..200 {
         if let Some(mut vault) = vault_of(&rt, rt.alloc(), file, reads) {
-            let answer = readable(rt.alloc(), &mut vault, FileId(0));
-            match answer {
+            match sound(rt.alloc(), &mut vault, FileId(0)) {
                 Ok(_) => {
                     assert!(&rt; vault.faults == 0);
-                    readable_after = Some(reads);
+                    sound_after = Some(reads);
                     break;
                 }
                 Err(e) => assert!(&rt; e == DbError::VaultFault && vault.faults == 1),
             }
         }
     }
-    assert!(&rt; readable_after.is_some());
+    assert!(&rt; sound_after.is_some());
     Ok(())
 }

@@ -9,7 +9,7 @@ use Rattle.gd_format.specs.FreeSide.{IsFreeSide, free_extents}
 use Rattle.gd_format.specs.Hash.{hash_of}
 use Rattle.gd_format.specs.Slots.{AreReached, hash_in, is_full}
 use Rattle.gd_format.specs.Sound.{extent}
-use Rattle.gd_laws.specs.Change.{slot_made}
+use Rattle.gd_map_laws.specs.Change.{slot_made}
 use Rattle.gd_space.specs.Calls.{free_lists}
 use Rattle.gd_space.proofs.Fits.{bounds}
 use Rattle.gd_vault.specs.Content.{File}

@@ -1,6 +1,6 @@
 use Rattle.std.proofs.Common.{refl, ap}
 use Rattle.gd_format.specs.Bucket.{Bucket}
-use Rattle.gd_laws.specs.Overflow.{is_close}
+use Rattle.gd_map_laws.specs.Overflow.{is_close}
 use Rattle.gd_grow.proofs.NextBits.{first_fewer, second_fewer}
 use Rattle.gd_grow.proofs.halves.take_half.Goals as goal
 

@@ -1,9 +1,9 @@
 use Rattle.std.proofs.Common.{◌≡◌, true, false, Some, length, get_or, ap, sym, ◌∙◌, rules, arith}
 use Rattle.gd_format.specs.declared.Slot.TheVariants.{Empty}
 use Rattle.gd_bucket.specs.Probing.{slot_after, HasNoCandidate}
-use Rattle.gd_laws.specs.Find.{is_slot_of}
-use Rattle.gd_verify.specs.Asks.{bytes_in, kept_of}
-use Rattle.gd_verify.proofs.Asks.{told_then}
+use Rattle.gd_map_laws.specs.Find.{is_slot_of}
+use Rattle.gd_readable.specs.Asks.{bytes_in, kept_of}
+use Rattle.gd_readable.proofs.Asks.{told_then}
 use Rattle.gd_lookup.proofs.Keys.{absent_of, lies, own_slot, passed_on}
 use Rattle.gd_lookup.proofs.candidates.find_in.Goals as goal
 

@@ -1,7 +1,7 @@
 use Rattle.std.proofs.Common.{◌≡◌, ◌-◌, ◌<◌, ◌≤◌, ℕ, false, length}
 use Rattle.gd_bucket.specs.Probing.{slot_after}
-use Rattle.gd_laws.specs.Find.{is_slot_of}
-use Rattle.gd_verify.specs.Asks.{kept_of, bytes_in, Tells}
+use Rattle.gd_map_laws.specs.Find.{is_slot_of}
+use Rattle.gd_readable.specs.Asks.{kept_of, bytes_in, Tells}
 use Rattle.gd_lookup.proofs.candidates.find_in.Given as goal
 
 abbrev pub invariant-candidates : goal.invariant-candidates

@@ -1,5 +1,5 @@
 use Rattle.std.proofs.Common.{length}
-use Rattle.gd_verify.specs.Asks.{IsIn}
+use Rattle.gd_readable.specs.Asks.{IsIn}
 use Rattle.gd_lookup.proofs.Opens.{bad_slot}
 use Rattle.gd_lookup.proofs.Owns.{key_inside}
 use Rattle.gd_lookup.proofs.candidates.is_own.Goals as goal

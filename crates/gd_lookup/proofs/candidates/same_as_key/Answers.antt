@@ -3,7 +3,7 @@ use Rattle.std.specs.Str.{bytes_eq}
 use Rattle.std.proofs.lemmas.List.{length-take-le, take_all}
 use Rattle.std.proofs.lemmas.Slice.Eq.{bytes_eq-Decides}
 use Rattle.gd_format.specs.Field.{bytes_at}
-use Rattle.gd_verify.proofs.Asks.{told_then}
+use Rattle.gd_readable.proofs.Asks.{told_then}
 use Rattle.gd_lookup.proofs.Owns.{piece_more, whole_differs}
 use Rattle.gd_lookup.proofs.candidates.same_as_key.Goals as goal
 

@@ -1,6 +1,6 @@
 use Rattle.std.proofs.Common.{◌≡◌, ◌-◌, ◌≤◌, length, take}
 use Rattle.gd_format.specs.Field.{bytes_at}
-use Rattle.gd_verify.specs.Asks.{kept_of, bytes_in, Tells, IsIn}
+use Rattle.gd_readable.specs.Asks.{kept_of, bytes_in, Tells, IsIn}
 use Rattle.gd_lookup.proofs.candidates.same_as_key.Given as goal
 
 abbrev pub invariant-pieces : goal.invariant-pieces

@@ -2,8 +2,8 @@ use Rattle.std.proofs.Common.{◌≡◌, ◌-◌, ◌/◌, ◌^◌, ◌<◌, get
 use Rattle.gd_format.specs.declared.Slot.TheVariants.{Empty}
 use Rattle.gd_format.specs.HeaderFault.{natural}
 use Rattle.gd_format.specs.File.{entries_of, entry_at}
-use Rattle.gd_verify.specs.Asks.{bytes_in, kept_of, Tells}
-use Rattle.gd_verify.proofs.Asks.{told_then}
+use Rattle.gd_readable.specs.Asks.{bytes_in, kept_of, Tells}
+use Rattle.gd_readable.proofs.Asks.{told_then}
 use Rattle.gd_lookup.specs.Finding.{IsCandidateAt, IsKeyAbsent, IsKeySlot}
 use Rattle.gd_lookup.specs.Order.{following}
 use Rattle.gd_lookup.proofs.Blocks.{block_read, header_some, place_of_entry}

@@ -1,10 +1,10 @@
 use Rattle.std.proofs.Common.{◌≡◌, ◌+◌, ◌*◌, ◌/◌, ℕ, [], Some, false, ap, sym, arith}
 use Rattle.gd_format.specs.Bucket.{counts_at}
 use Rattle.gd_format.specs.File.{is_full_at}
-use Rattle.gd_verify.specs.Asks.{bytes_in, kept_of, Tells}
-use Rattle.gd_verify.specs.Left.{passing_from, slots_left}
-use Rattle.gd_verify.proofs.Asks.{told_then}
-use Rattle.gd_verify.proofs.Headers.{header_block, header_room}
+use Rattle.gd_readable.specs.Asks.{bytes_in, kept_of, Tells}
+use Rattle.gd_readable.specs.Left.{passing_from, slots_left}
+use Rattle.gd_readable.proofs.Asks.{told_then}
+use Rattle.gd_readable.proofs.Headers.{header_block, header_room}
 use Rattle.gd_lookup.specs.Counting.{have_share}
 use Rattle.gd_lookup.specs.Order.{first_of}
 use Rattle.gd_lookup.proofs.Blocks.{is_block}

@@ -1,7 +1,7 @@
 use Rattle.std.proofs.Common.{◌≡◌, ◌-◌, ◌≤◌, length}
 use Rattle.gd_format.specs.File.{entries_of}
-use Rattle.gd_verify.specs.Asks.{kept_of, bytes_in, Tells}
-use Rattle.gd_verify.specs.Left.{buckets_left}
+use Rattle.gd_readable.specs.Asks.{kept_of, bytes_in, Tells}
+use Rattle.gd_readable.specs.Left.{buckets_left}
 use Rattle.gd_lookup.specs.Counting.{Begins}
 use Rattle.gd_lookup.proofs.following.first_from.Given as goal
 

@@ -1,6 +1,6 @@
 use Rattle.std.proofs.Common.{ap, ◌∙◌, arith}
 use Rattle.gd_format.specs.File.{key_of}
-use Rattle.gd_verify.proofs.Headers.{header_room}
+use Rattle.gd_readable.proofs.Headers.{header_room}
 use Rattle.gd_lookup.proofs.Orders.{first_slot, slot_fields}
 use Rattle.gd_lookup.proofs.following.first_in_block.Goals as goal
 

@@ -1,6 +1,6 @@
 use Rattle.std.proofs.Common.{◌≡◌}
 use Rattle.gd_format.specs.File.{is_full_at}
-use Rattle.gd_verify.specs.Left.{passing_from}
+use Rattle.gd_readable.specs.Left.{passing_from}
 use Rattle.gd_lookup.proofs.following.next_full.Given as goal
 
 abbrev pub invariant-loop-s : goal.invariant-loop-s

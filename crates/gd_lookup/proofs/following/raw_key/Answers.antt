@@ -2,7 +2,7 @@ use Rattle.std.proofs.Common.{◌≡◌, ℕ, false, length, ap, ◌∙◌, arit
 use Rattle.gd_format.specs.Field.{bytes_at}
 use Rattle.gd_format.specs.File.{are_fields_right, key_of}
 use Rattle.gd_format.specs.HeaderFault.{natural}
-use Rattle.gd_verify.proofs.Places.{record_parts}
+use Rattle.gd_readable.proofs.Places.{record_parts}
 use Rattle.gd_lookup.proofs.Opens.{bad_slot}
 use Rattle.gd_lookup.proofs.following.raw_key.Goals as goal
 

@@ -1,6 +1,6 @@
 use Rattle.std.proofs.Common.{◌≡◌, false, arith}
 use Rattle.gd_format.specs.Bucket.{is_bucket}
-use Rattle.gd_verify.proofs.Headers.{header_room}
+use Rattle.gd_readable.proofs.Headers.{header_room}
 use Rattle.gd_lookup.proofs.Opens.{bad_bucket}
 use Rattle.gd_lookup.proofs.Blocks.{block_right, header_some, slots_length}
 use Rattle.gd_lookup.proofs.parts.bucket_in.Goals as goal

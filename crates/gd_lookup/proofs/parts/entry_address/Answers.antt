@@ -1,5 +1,5 @@
 use Rattle.std.proofs.Common.{◌≡◌, Some, None, rules}
-use Rattle.gd_verify.specs.Standing.{place_of}
+use Rattle.gd_readable.specs.Standing.{place_of}
 use Rattle.gd_lookup.proofs.Opens.{bad_entry}
 use Rattle.gd_lookup.proofs.Blocks.{address_read, entry_in}
 use Rattle.gd_lookup.proofs.parts.entry_address.Goals as goal

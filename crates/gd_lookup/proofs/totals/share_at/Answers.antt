@@ -1,8 +1,8 @@
 use Rattle.std.proofs.Common.{◌≡◌, false, ap, ◌∙◌, arith}
 use Rattle.gd_format.specs.Bucket.{counts_at}
 use Rattle.gd_format.specs.HeaderFault.{natural}
-use Rattle.gd_verify.proofs.Asks.{told_then}
-use Rattle.gd_verify.proofs.Headers.{header_room}
+use Rattle.gd_readable.proofs.Asks.{told_then}
+use Rattle.gd_readable.proofs.Headers.{header_room}
 use Rattle.gd_lookup.specs.Counting.{have_share, run_of}
 use Rattle.gd_lookup.proofs.Blocks.{entry_is}
 use Rattle.gd_lookup.proofs.Counts.{head_counts, run_is, shares}

@@ -1,5 +1,5 @@
 use Rattle.std.proofs.Common.{arith, ◌-◌}
-use Rattle.gd_verify.proofs.Runs.{run_range}
+use Rattle.gd_readable.proofs.Runs.{run_range}
 use Rattle.gd_lookup.proofs.totals.share_of.Goals as goal
 
 pub returns-clause-most : goal.returns-clause-most

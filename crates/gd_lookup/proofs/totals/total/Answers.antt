@@ -1,7 +1,7 @@
 use Rattle.std.proofs.Common.{◌<◌, refl, sym, rules, arith}
 use Rattle.gd_format.specs.File.{entries_of}
-use Rattle.gd_verify.proofs.Asks.{told_then}
-use Rattle.gd_verify.proofs.Runs.{run_range}
+use Rattle.gd_readable.proofs.Asks.{told_then}
+use Rattle.gd_readable.proofs.Runs.{run_range}
 use Rattle.gd_lookup.proofs.Counts.{counted_all, counted_more, counted_none}
 use Rattle.gd_lookup.proofs.totals.total.Goals as goal
 

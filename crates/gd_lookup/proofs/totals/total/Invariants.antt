@@ -1,6 +1,6 @@
 use Rattle.std.proofs.Common.{◌≡◌, ◌-◌, ◌*◌, ◌≤◌, ◌^◌}
 use Rattle.gd_format.specs.File.{entries_of}
-use Rattle.gd_verify.specs.Asks.{kept_of, bytes_in, Tells}
+use Rattle.gd_readable.specs.Asks.{kept_of, bytes_in, Tells}
 use Rattle.gd_lookup.proofs.Counts.{Counted}
 use Rattle.gd_lookup.proofs.totals.total.Given as goal
 

@@ -1,6 +1,6 @@
 use Rattle.std.proofs.Common.{◌≡◌, ◌+◌, ◌*◌, ◌≤◌, List, ℕ, [], length, ap, subst, ◌∙◌, arith}
 use Rattle.gd_format.specs.declared.Header.{Header}
-use Rattle.gd_parts.specs.Frame.{written}
+use Rattle.gd_file_laws.specs.Frame.{written}
 use Rattle.gd_space.specs.Calls.{free_lists}
 use Rattle.gd_space.proofs.Fits.{bounds}
 use Rattle.gd_vault.proofs.Within.{within_trans}

@@ -2,7 +2,7 @@ use Rattle.std.proofs.Common.{◌≡◌, true, false, get_or, take, sym, ap, ◌
 use Rattle.std.proofs.lemmas.List.{take_more}
 use Rattle.gd_format.specs.declared.Slot.TheVariants.{Empty}
 use Rattle.gd_format.specs.Slots.{count}
-use Rattle.gd_laws.specs.Overflow.{is_close}
+use Rattle.gd_map_laws.specs.Overflow.{is_close}
 use Rattle.gd_layout.proofs.Written.{count_push}
 use Rattle.gd_store.proofs.storing.close_count.Goals as goal
 use Rattle.gd_store.proofs.storing.close_count.Goals.{then-is_close, else-is_close}

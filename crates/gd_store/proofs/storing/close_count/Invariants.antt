@@ -1,6 +1,6 @@
 use Rattle.std.proofs.Common.{◌≡◌, ◌≤◌, take}
 use Rattle.gd_format.specs.Slots.{count}
-use Rattle.gd_laws.specs.Overflow.{is_close}
+use Rattle.gd_map_laws.specs.Overflow.{is_close}
 use Rattle.gd_store.proofs.storing.close_count.Given as goal
 
 abbrev pub invariant-loop-slot : goal.invariant-loop-slot

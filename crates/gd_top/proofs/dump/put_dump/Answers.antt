@@ -3,7 +3,7 @@ use Rattle.gd_base.specs.Pages.{Pends}
 use Rattle.gd_base.specs.Streams.{WritesFront}
 use Rattle.gd_base.proofs.Waits.{Waits, pends-after, pends-front, waits-more}
 use Rattle.gd_dump.specs.Ascii.{end_text, head_text, pairs_text}
-use Rattle.gd_verify.specs.Standing.{left_of}
+use Rattle.gd_readable.specs.Standing.{left_of}
 use Rattle.gd_top.proofs.Files.{pends_failed}
 use Rattle.gd_top.proofs.dump.put_dump.Goals as goal
 

@@ -4,7 +4,7 @@ use Rattle.gd_base.proofs.Waits.{Waits, pends-after, pends-front, waits-more}
 use Rattle.gd_vault.specs.Content.{File}
 use Rattle.gd_vault.specs.Views.{IsAt, content_of}
 use Rattle.gd_dump.specs.Ascii.{pair_text, pairs_text}
-use Rattle.gd_verify.specs.Standing.{StandsIn, left_of, slots_of_walk}
+use Rattle.gd_readable.specs.Standing.{StandsIn, left_of, slots_of_walk}
 use Rattle.gd_top.specs.Dump.{AtFile}
 use Rattle.gd_top.proofs.Files.{asks_on, at_now, pends_stop}
 use Rattle.gd_top.proofs.Pairs.{pairs_more}

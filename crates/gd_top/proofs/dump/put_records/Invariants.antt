@@ -2,7 +2,7 @@ use Rattle.std.proofs.Common.{◌≡◌, ◌+◌, ◌≤◌, ◌++◌, List, ℕ
 use Rattle.gd_base.proofs.Waits.{Waits}
 use Rattle.gd_dump.specs.Ascii.{pairs_text}
 use Rattle.gd_vault.specs.Views.{OnlyAsks}
-use Rattle.gd_verify.specs.Standing.{StandsIn, left_of, slots_of_walk}
+use Rattle.gd_readable.specs.Standing.{StandsIn, left_of, slots_of_walk}
 use Rattle.gd_top.specs.Dump.{AtFile}
 use Rattle.gd_top.proofs.dump.put_records.Given as goal
 

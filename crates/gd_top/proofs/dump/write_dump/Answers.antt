@@ -3,7 +3,7 @@ use Rattle.gd_base.specs.Streams.{Puts, and_then}
 use Rattle.gd_base.proofs.Waits.{puts-error}
 use Rattle.gd_vault.specs.Views.{content_of}
 use Rattle.gd_dump.specs.Ascii.{ascii_text}
-use Rattle.gd_verify.specs.Standing.{StandsIn, left_of}
+use Rattle.gd_readable.specs.Standing.{StandsIn, left_of}
 use Rattle.gd_top.specs.Dump.{dump_of}
 use Rattle.gd_top.proofs.Files.{at_now, dump_text, flush_done, flush_failed, puts_failed}
 use Rattle.gd_top.proofs.dump.write_dump.Goals as goal

@@ -3,7 +3,7 @@ use Rattle.std.specs.FinMap.{remove}
 use Rattle.gd_base.specs.declared.errors.DbError.{DbError}
 use Rattle.gd_base.specs.declared.errors.DbError.TheVariants.{VaultFault}
 use Rattle.gd_format.specs.File.{records}
-use Rattle.gd_laws.specs.Maps.{pair_map}
+use Rattle.gd_map_laws.specs.Maps.{pair_map}
 use Rattle.gd_vault.specs.Views.{IsAt, OnlyAsks}
 use Rattle.gd_store.specs.Opened.{Opened}
 use Rattle.gd_store.proofs.Changing.{becomes_as, fits_after, if_err_map, on_ok_map, there_after}

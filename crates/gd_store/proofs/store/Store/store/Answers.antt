@@ -1,7 +1,7 @@
 use Rattle.std.proofs.Common.{◌≡◌, ℕ, false, List, sym, ap, ◌∙◌}
 use Rattle.std.specs.FinMap.{insert}
 use Rattle.gd_format.specs.File.{records}
-use Rattle.gd_laws.specs.Maps.{pair_map}
+use Rattle.gd_map_laws.specs.Maps.{pair_map}
 use Rattle.gd_store.specs.Changed.{store_loss}
 use Rattle.gd_store.specs.Opened.{Opened}
 use Rattle.gd_store.proofs.Changing.{becomes_as, fits_after, kept_as, on_ok_map, there_after}

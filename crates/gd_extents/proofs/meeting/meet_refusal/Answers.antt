@@ -1,7 +1,0 @@
-use Rattle.std.proofs.Common.{sym}
-use Rattle.gd_extents.proofs.Chains.{nowhere}
-use Rattle.gd_extents.proofs.Meets.{first_meets}
-use Rattle.gd_extents.proofs.meeting.meet_refusal.Goals as goal
-
-pub returns : goal.returns
-returns c = let n = c.in_ok-n.ensures in sym (first_meets c.args.next c.args.list.now c.in_ok-n.n nowhere n.place n.before n.here)

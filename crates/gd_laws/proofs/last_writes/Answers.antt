@@ -1,5 +1,0 @@
-use Rattle.gd_laws.proofs.Writes.{writes_read}
-use Rattle.gd_laws.proofs.last_writes.Goals as goal
-
-pub returns : goal.returns
-returns c = writes_read

@@ -1,5 +1,0 @@
-use Rattle.gd_laws.proofs.SplitSums as sums
-use Rattle.gd_laws.proofs.sums_split.Goals as goal
-
-pub returns : goal.returns
-returns c = record { split = sums.split_totals; double = sums.double_totals }

@@ -1,6 +1,0 @@
-use Rattle.gd_parts.proofs.Made.{made_readable}
-use Rattle.gd_parts.proofs.Walk.{readable}
-use Rattle.gd_parts.proofs.readable_by_parts.Goals as goal
-
-pub returns : goal.returns
-returns c file = (readable file, made_readable file)

@@ -1,5 +1,0 @@
-use Rattle.gd_parts.proofs.Stacks as stacks
-use Rattle.gd_parts.proofs.stack_by_blocks.Goals as goal
-
-pub returns : goal.returns
-returns c = record { made = stacks.shown; has = stacks.has_blocks; distinct = stacks.distinct_apart }

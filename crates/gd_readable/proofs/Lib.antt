@@ -1,0 +1,15 @@
+pub mod Ahead
+pub mod Asks
+pub mod Entries
+pub mod Fronts
+pub mod Headers
+pub mod Refusals
+pub mod Left
+pub mod Nexts
+pub mod Passing
+pub mod Places
+pub mod Reach
+pub mod Runs
+pub mod Seen
+pub mod Steps
+pub mod Walks

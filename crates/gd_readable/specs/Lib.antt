@@ -1,0 +1,4 @@
+pub mod Asks
+pub mod Checks
+pub mod Left
+pub mod Standing

@@ -1,0 +1,7 @@
+use Rattle.std.proofs.Common.{[]}
+use Rattle.gd_space_laws.proofs.Views.{done_kept}
+use Rattle.gd_space_laws.proofs.recut_keeps_patch.Goals as goal
+
+pub returns : goal.returns
+returns c = λ old new f h h' next capacity table table' i at bucket bucket' block front lost c x told there patch is_next done.
+    done_kept old new f h h' next capacity table table' i at bucket bucket' block front [] lost c x tt told there patch is_next done

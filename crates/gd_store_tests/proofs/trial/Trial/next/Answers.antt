@@ -1,0 +1,6 @@
+use Rattle.gd_memvault.specs.Memory.{memory_view}
+use Rattle.gd_store_tests.proofs.Kept.{kept}
+use Rattle.gd_store_tests.proofs.trial.Trial.next.Goals as goal
+
+pub invariant_of-self : goal.invariant_of-self
+invariant_of-self c = kept (memory_view c.self.inside.vault) (memory_view c.next.new.vault) c.self.inside.store c.next.new.self c.next.ensures.same c.next.ensures.asks c.self.invariant

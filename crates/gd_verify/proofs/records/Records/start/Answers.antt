@@ -1,5 +1,0 @@
-use Rattle.gd_verify.proofs.Passing.{starts_whole}
-use Rattle.gd_verify.proofs.records.Records.start.Goals as goal
-
-pub returns : goal.returns
-returns c = starts_whole c.args.file.now c.args.header.now _ c.requires.header
