@@ -1,6 +1,6 @@
 //! Names of files.
 
-ghost use Rattle.std.specs.Prelude.{◌≡◌, ◌++◌, IfOk, codes};
+ghost use Rattle.std.specs.Prelude.{◌≡◌, ◌≤◌, ◌++◌, IfOk, codes, length, string_bytes, string_capacity};
 ghost use Rattle.gd_base.specs.Names.{MakesName, ends_reserved, has_zero, name_fault};
 
 use crate::OutOfMemory;
@@ -23,18 +23,34 @@ pub enum NameError {
     OutOfMemory,
 }
 
-/// A name of a file. Contracts see the bytes of its text.
+/// A name of a file. Contracts see the bytes of its text. It has room for each other name that `new` accepts.
 #[derive(Debug, Drop)]
 pub struct Name {
     text: String,
 }
 
 impl Model for Name {
-    ghost use Rattle.std.specs.Prelude.{ℕ, List, string_bytes};
+    ghost use Rattle.std.specs.Prelude.{ℕ, List, ◌≤◌, string_bytes, string_capacity};
 
     ghost Value = { List ℕ };
 
     ghost view = { λ n. string_bytes n.text };
+
+    ghost invariant = { λ n. 4000 ≤ string_capacity n.text };
+}
+
+// A text that has room for each name.
+fn with_room(alloc: Global, text: &str) -> Result<String, OutOfMemory>
+    ensures bytes { IfOk result (λ t. string_bytes t ≡ text.now) }
+    ensures room { IfOk result (λ t. 4000 ≤ string_capacity t) }
+{
+    let Ok(mut copy) = String::with_capacity(alloc, 4000) else {
+        return Err(OutOfMemory);
+    };
+    match copy.push_str(text) {
+        Ok(()) => Ok(copy),
+        Err(_) => Err(OutOfMemory),
+    }
 }
 
 fn is_reserved(text: &[u8]) -> bool
@@ -73,9 +89,9 @@ impl Name {
         if let Some(fault) = fault(text) {
             return Err(fault);
         }
-        match String::from_str(alloc, text) {
+        match with_room(alloc, text) {
             Ok(text) => Ok(Name { text }),
-            Err(_) => Err(NameError::OutOfMemory),
+            Err(OutOfMemory) => Err(NameError::OutOfMemory),
         }
     }
 
@@ -83,12 +99,30 @@ impl Name {
     pub fn scratch(&self, alloc: Global) -> Result<Name, OutOfMemory>
         ensures { IfOk result (λ n. n ≡ self.now ++ codes ".gdbm-scratch") }
     {
-        let Ok(mut text) = String::from_str(alloc, &self.text) else {
-            return Err(OutOfMemory);
-        };
+        let mut text = with_room(alloc, &self.text)?;
         match text.push_str(".gdbm-scratch") {
             Ok(()) => Ok(Name { text }),
             Err(_) => Err(OutOfMemory),
+        }
+    }
+
+    /// An equal name.
+    pub fn copy(&self, alloc: Global) -> Result<Name, OutOfMemory>
+        ensures { IfOk result (λ n. n ≡ self.now) }
+    {
+        let text = with_room(alloc, &self.text)?;
+        Ok(Name { text })
+    }
+
+    /// Takes over the text of another name, without taking memory.
+    pub fn set(&mut self, name: &Name)
+        requires { length name.now ≤ 4000 }
+        ensures { self.new ≡ name.now }
+    {
+        self.text.clear();
+        match self.text.push_str(name.as_str()) {
+            Ok(()) => {}
+            Err(_) => unreachable!(),
         }
     }
 

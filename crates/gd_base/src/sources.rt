@@ -11,10 +11,11 @@ pub trait Source {
     /// The bytes that are left, where the source tells them.
     ghost left: { Self → Option (List ℕ) };
 
-    /// How often it has failed.
+    /// How many of its calls failed.
     ghost fault_count: { Self → ℕ };
 
-    /// How often it has failed. The count never falls.
+    /// How many of its calls failed. A call that is answered leaves the count, and one that fails raises it by one, up
+    /// to the last value of a u64.
     fn faults(&self) -> u64
         ensures { result ≡ fault_count self.now };
 

@@ -11,13 +11,14 @@ pub trait Sink {
     /// The bytes that were written, where the sink tells them.
     ghost written: { Self → Option (List ℕ) };
 
-    /// How often it has failed.
+    /// How many of its calls failed.
     ghost fault_count: { Self → ℕ };
 
     /// What each write, a failed one too, leaves between the sink before and after.
     ghost kept: { Self → Self → Type 0 };
 
-    /// How often it has failed. The count never falls.
+    /// How many of its calls failed. A call that is answered leaves the count, and one that fails raises it by one, up
+    /// to the last value of a u64.
     fn faults(&self) -> u64
         ensures { result ≡ fault_count self.now };
 

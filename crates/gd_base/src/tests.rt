@@ -41,6 +41,9 @@ fn names_are_refused_in_their_order(rt: HostRuntime) -> Result<(), Fail> {
         name.scratch(alloc)?.as_str(),
         "mail/aliases.gdbm.gdbm-scratch"
     );
+    let mut other = named(alloc, "b")?;
+    other.set(&name);
+    assert_eq!(rt; other.as_str(), name.copy(alloc)?.as_str());
     Ok(())
 }
 

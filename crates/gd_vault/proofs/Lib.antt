@@ -10,3 +10,6 @@ pub mod Told
 pub mod Torn
 pub mod WasLeft
 pub mod Within
+pub mod Since
+pub mod OneFile
+pub mod Writes

@@ -11,3 +11,4 @@ pub mod Stands
 pub mod Stay
 pub mod Streams
 pub mod Views
+pub mod Since

@@ -54,6 +54,7 @@ pub record Asked {T E : Type 0} (result : Result T E) (old new : View) : Type 0 
 pub record Answered (f at : ℕ) (buf filled : List ℕ) (n : ℕ) (old new : View) : Type 0 where
   pub told : new.told ≡ old.told
   pub later : old.faults ≤ new.faults
+  pub answered : new.faults ≡ old.faults
   pub bytes_written : new.bytes_written ≡ old.bytes_written
   pub clones : new.clones ≡ old.clones
   pub small : n ≤ length buf

@@ -1,6 +1,7 @@
 //! Laws of what a vault has been, of what a crash may leave, and of what calls leave alone. No program calls these.
 
 ghost use Rattle.gd_vault.specs.Laws.{AfterIsLeft, CallsAdd, FrameImages, FrameReads, FrameReflexive, FrameTransitive, PastStays, ReadsNow, WasIsLeft};
+ghost use Rattle.gd_vault.specs.Since.{IdleLeavesAll, KeptNameIsLeft, NameIsOneSince, QuietIsKept, WrittenIsLeft};
 
 /// What a vault was at a moment, and what a crash may leave of it, never changes.
 pub fn past_stays()
@@ -46,4 +47,30 @@ pub fn frame_images()
 /// At the end of a frame all other files and names read as at its start, and no file is gone.
 pub fn frame_reads()
     ensures { FrameReads }
+{}
+
+/// A crash leaves a file as it reads, where no call met it since a sync of it that succeeded, or since it was made.
+pub fn quiet_is_kept()
+    ensures { QuietIsKept }
+{}
+
+/// Where a file was written since, but neither emptied nor cloned into, a crash leaves it no shorter than it was when it was
+/// durable and no longer than it was since, with the bytes that no write met, its stamp, and a mode that it had since.
+pub fn written_is_left()
+    ensures { WrittenIsLeft }
+{}
+
+/// A name that was not changed since the names were synced stands for what it stands for now.
+pub fn kept_name_is_left()
+    ensures { KeptNameIsLeft }
+{}
+
+/// A name stands for what it stood for at some time since the names were synced.
+pub fn name_is_one_since()
+    ensures { NameIsOneSince }
+{}
+
+/// A failed call that touched nothing adds nothing to what a crash may leave.
+pub fn idle_leaves_all()
+    ensures { IdleLeavesAll }
 {}

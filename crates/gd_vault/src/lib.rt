@@ -8,7 +8,8 @@ mod vaults;
 
 pub use laws::{
     after_is_left, calls_add, frame_images, frame_reads, frame_reflexive, frame_transitive,
-    past_stays, reads_now, was_is_left,
+    idle_leaves_all, kept_name_is_left, name_is_one_since, past_stays, quiet_is_kept, reads_now,
+    was_is_left, written_is_left,
 };
 pub use vault_sink::VaultSink;
 pub use vault_source::VaultSource;

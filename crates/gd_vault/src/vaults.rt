@@ -37,7 +37,8 @@ pub trait Vault {
     /// What contracts see of it.
     ghost view_of: { Self → View };
 
-    /// How often it has failed. The count never falls.
+    /// How many of its calls failed. A call that is answered leaves the count, and one that fails raises it by one, up
+    /// to the last value of a u64.
     fn faults(&self) -> u64
         ensures { result ≡ (view_of self.now).faults };
 
