@@ -16,7 +16,12 @@ starved_changed old one two new e first second nothing last later call =
     let faults : two.faults ≡ old.faults = ap (λ (m : MemState). m.faults) second ∙ ap (λ (m : MemState). m.faults) first in
     record {
       told = subst (λ t. TellsAfter call false (memory_told old) t) (sym told_new) (subst (λ t. TellsAfter call false t (memory_told two)) told_one (nothing_told call (memory_told one) (memory_told two) nothing));
-      cause = record { later = omega (arith, later, faults); failed = omega (arith, faults, ap (λ (m : MemState). m.faults) last) };
+      cause = record {
+        later = omega (arith, later, faults);
+        failed = omega (arith, faults, ap (λ (m : MemState). m.faults) last);
+        answered = tt;
+        once = omega (arith, faults, ap (λ (m : MemState). m.faults) last);
+      };
       bytes_written = ap (λ (m : MemState). m.written) last ∙ ap (λ (m : MemState). m.written) second ∙ ap (λ (m : MemState). m.written) first;
       clones = ap (λ (m : MemState). m.clones) last ∙ ap (λ (m : MemState). m.clones) second ∙ ap (λ (m : MemState). m.clones) first;
       reads = ap (λ (m : MemState). m.reads) last ∙ ap (λ (m : MemState). m.reads) second ∙ ap (λ (m : MemState). m.reads) first;
@@ -24,7 +29,7 @@ starved_changed old one two new e first second nothing last later call =
 
 -- a failed call answers another error
 pub other_error : {T E U F : Type 0} {call : Call} {e : E} {f : F} {old new : View} → Changed {T = T} {E = E} call (Err e) old new → Changed {T = U} {E = F} call (Err f) old new
-other_error h = record { told = h.told; cause = record { later = h.cause.later; failed = h.cause.failed }; bytes_written = h.bytes_written; clones = h.clones; reads = h.reads }
+other_error h = record { told = h.told; cause = record { later = h.cause.later; failed = h.cause.failed; answered = tt; once = h.cause.once }; bytes_written = h.bytes_written; clones = h.clones; reads = h.reads }
 
 raised_nothing : {T E : Type 0} (size a : ℕ) (r : Result T E) → IsErr r → Raised (is_ok r) size a a
 raised_nothing size a (Ok x) err = absurd (let wrong : false ≡ true = err in cc)

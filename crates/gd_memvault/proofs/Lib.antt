@@ -7,3 +7,4 @@ pub mod Names
 pub mod Ranges
 pub mod Running
 pub mod Sounds
+pub mod Pasts

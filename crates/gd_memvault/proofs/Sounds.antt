@@ -29,7 +29,7 @@ some_of : {A : Type 0} (o : Option A) → o ≢ None → (x : A) × (o ≡ Some 
 some_of None some = absurd (some refl)
 some_of (Some x) some = (x, refl)
 
-proper_now : (t : Told) → IsSound t → (c : Content) → content_of t ≡ Some c → IsProper c
+pub proper_now : (t : Told) → IsSound t → (c : Content) → content_of t ≡ Some c → IsProper c
 proper_now Nothing sound c is = absurd (let wrong : None ≡ Some c = is in cc)
 proper_now (Tells d) sound c is = let same : d ≡ c = cc in subst IsProper same sound
 proper_now (Records first es) sound c is = let same : content_after first es ≡ c = (let whole : Some (content_after first es) ≡ Some c = is in cc) in subst IsProper same (proper first es sound)

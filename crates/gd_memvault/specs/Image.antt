@@ -1,9 +1,10 @@
 -- An image of what a crash leaves, as it follows the log.
-use Rattle.std.specs.Prelude.{◌≡◌, ◌≢◌, ◌⊎◌, ◌<◌, ◌≤◌, ℕ, true, false, List, [], ◌++◌, length, slice_get, drop, Some, None, fold, take}
+use Rattle.std.specs.Prelude.{◌≡◌, ◌≢◌, ◌⊎◌, ◌<◌, ◌≤◌, ◌==◌, ℕ, Bool, true, false, List, [], ◌++◌, length, slice_get, drop, Some, None, fold, take}
+use Rattle.std.specs.List.{list_all}
 use Rattle.gd_vault.specs.Content.{File, Content}
 use Rattle.gd_vault.specs.Events.{Call, Event, content_after}
 use Rattle.gd_vault.specs.Events.Call.{Sync}
-use Rattle.gd_vault.specs.History.{CutShort, FileLeft, MayMake, MayName, NameLeft, NameStep, NoLonger, left}
+use Rattle.gd_vault.specs.History.{CutShort, FileLeft, MayMake, MayName, NameLeft, NameStep, NoLonger, left, was}
 use Rattle.gd_vault.specs.Views.Told.{Records}
 use Rattle.gd_memvault.specs.DiskData.{DiskData}
 use Rattle.gd_memvault.specs.declared.log.Entry.{Entry}
@@ -52,6 +53,18 @@ events_at first entries i = fold (add_entry first) [] (take i entries)
 -- a crash may leave this disk
 abbrev pub IsLeft : MemState → ℕ → DiskData → Type 0
 IsLeft m t disk = (first : Content) (es : List Event) → memory_told m ≡ Records first es → left first es t (disk_content disk)
+
+-- each choice is 0
+abbrev pub is_quiet : List ℕ → Bool
+is_quiet pick = list_all (λ n. n == 0) pick
+
+-- the disk is what the vault was at the moment
+abbrev pub IsWas : MemState → ℕ → DiskData → Type 0
+IsWas m t disk = (first : Content) (es : List Event) → memory_told m ≡ Records first es → disk_content disk ≡ was first es t
+
+-- a vault that holds what another was at a moment, and in which nothing was called
+abbrev pub HoldsWas : MemState → ℕ → MemState → Type 0
+HoldsWas m t v = (first : Content) (es : List Event) → memory_told m ≡ Records first es → memory_told v ≡ Records (was first es t) []
 
 -- a vault that holds an image of a moment, and in which nothing was called
 abbrev pub HoldsImage : MemState → ℕ → MemState → Type 0

@@ -1,25 +1,25 @@
 //! The vault in memory, beside its calls as a vault.
 
-ghost use Rattle.std.specs.Prelude.{◌≡◌, ◌≢◌, ◌⊎◌, ◌↔◌, ◌+◌, ◌-◌, ◌<◌, ◌≤◌, ◌^◌, ◌++◌, ◌∷◌, [], false, take, drop, Some, None, min, length, Contains, IfOk, IfSome, IsErr, IsErrOf, IsTrue, OnErr, OnOk, is_ok, option_map};
+ghost use Rattle.std.specs.Prelude.{◌≡◌, ◌≢◌, ◌⊎◌, ◌↔◌, ◌+◌, ◌-◌, ◌<◌, ◌≤◌, ◌^◌, ◌++◌, ◌∷◌, [], false, take, drop, Some, None, min, length, Contains, IfOk, IfSome, IsErr, IsErrOf, IsTrue, OnErr, OnOk, is_ok, option_map, true};
 ghost use Rattle.gd_base.specs.Causes.{HasCause, Rose};
 ghost use Rattle.gd_vault.specs.Content.{File};
 ghost use Rattle.gd_vault.specs.Changes.{Changed, Cloned, KeepsContent, Refused, TellsAfter, Wrote};
 ghost use Rattle.gd_vault.specs.Events.{Call};
 ghost use Rattle.gd_vault.specs.Events.Call.{Clone_into, Create, Write};
+ghost use Rattle.gd_vault.specs.History.{IsProper};
 ghost use Rattle.gd_vault.specs.Lawful.{IsLawfulWhere};
 ghost use Rattle.gd_vault.specs.Views.{HasFile, IsAt, IsMoment, content_of};
 ghost use Rattle.gd_memvault.specs.Disk.{CanDo, call_of, disk_content};
 ghost use Rattle.gd_memvault.specs.Ended.{IsAtTold};
 ghost use Rattle.gd_memvault.specs.Idle.{IdleWhereStarved};
-ghost use Rattle.gd_memvault.specs.Image.{HoldsImage, IsLeft};
+ghost use Rattle.gd_memvault.specs.Image.{HoldsImage, HoldsWas, IsLeft, IsWas, is_quiet};
 ghost use Rattle.gd_memvault.specs.Log.{DoesNothing, IsFull, told_of};
 ghost use Rattle.gd_memvault.specs.Memory.{AddsDurable, Fails, HasMoment, HasNoEvent, KeepsRest, fresh, memory_told, memory_view, next_number};
 
 use crate::changes::{Ended, change, do_nothing, now};
-use crate::choices::Choices;
 use crate::disk::Disk;
 use crate::files::FileData;
-use crate::images::image_of;
+use crate::images::image_of_picks;
 use crate::log::Log;
 use crate::steps::Step;
 use gd_base::{AddError, CallList, Datum, Failed, Name, OutOfMemory};
@@ -242,7 +242,8 @@ impl MemVault {
     /// Inside a call that runs, not done is what happened. There the choices on a file come before those on names.
     pub fn image_at(&self, alloc: Global, t: u64, pick: &[u64]) -> Result<MemVault, OutOfMemory>
         requires { HasMoment self.now t }
-        ensures { IfOk result (λ v. HoldsImage self.now t v) }
+        ensures image { IfOk result (λ v. HoldsImage self.now t v) }
+        ensures quiet { is_quiet pick.now ≡ true → IfOk result (λ v. HoldsWas self.now t v) }
     {
         let disk = self.image(alloc, t, pick)?;
         Ok(MemVault {
@@ -271,10 +272,11 @@ impl MemVault {
 
     fn image(&self, alloc: Global, t: u64, pick: &[u64]) -> Result<Disk, OutOfMemory>
         requires { HasMoment self.now t }
-        ensures { IfOk result (λ d. IsLeft self.now t d) }
+        ensures left { IfOk result (λ d. IsLeft self.now t d) }
+        ensures quiet { is_quiet pick.now ≡ true → IfOk result (λ d. IsWas self.now t d) }
     {
         match &self.log {
-            Some(log) => image_of(alloc, &self.disk, log, t, &mut Choices::new(pick)),
+            Some(log) => image_of_picks(alloc, &self.disk, log, t, pick),
             None => Err(OutOfMemory),
         }
     }
@@ -410,9 +412,11 @@ impl MemVault {
     }
 
     // The present moment.
+    #[tactic(auto, using(crate::proofs::Sounds::proper_now))]
     pub(crate) fn present(&self) -> u64
         ensures moment { IsMoment (memory_view self.now) result }
         ensures lawful { IsLawfulWhere (memory_view self.now) }
+        ensures proper { IsAt (memory_view self.now) IsProper }
     {
         match &self.log {
             Some(log) => log.moment(),

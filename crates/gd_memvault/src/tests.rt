@@ -228,12 +228,14 @@ fn a_write_is_left_in_three_ways(rt: HostRuntime) -> Result<(), Fail> {
     write(&mut vault, alloc, "f", 1, b"c")?;
     sync(&mut vault, alloc, "f")?;
     let torn: &[u64] = &[2, 0, 0];
-    let cases: [(u64, &[u64], &[u8]); 9] = [
+    let cases: [(u64, &[u64], &[u8]); 11] = [
         (0, &[1], b"ab"),
         (1, &[], b"ab"),
+        (1, &[0, 0], b"ab"),
         (1, &[1], b"ac"),
         (1, torn, b"a\0"),
         (2, &[], b"ac"),
+        (2, &[0], b"ac"),
         (2, &[1], b"ab"),
         (2, torn, b"a\0"),
         (3, &[1], b"ab"),

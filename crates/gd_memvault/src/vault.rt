@@ -5,6 +5,7 @@ ghost use Rattle.gd_vault.specs.Content.{File};
 ghost use Rattle.gd_vault.specs.Events.Call.{Write, Truncate, Clone_into, Set_mode, Sync, Sync_names, Replace, Remove};
 ghost use Rattle.gd_vault.specs.Views.{Asked, HasFile, IsAt, IsMoment, ReadAt};
 ghost use Rattle.gd_vault.specs.Changes.{Changed, Cloned, Creates, ExistsWhere, HasName, Refused, Wrote};
+ghost use Rattle.gd_vault.specs.History.{IsProper};
 ghost use Rattle.gd_vault.specs.Lawful.{IsLawfulWhere};
 ghost use Rattle.gd_memvault.specs.Idle.{IdleWhereStarved};
 ghost use Rattle.gd_memvault.specs.Log.{IsFull};
@@ -22,7 +23,12 @@ impl Vault for MemVault {
         self.fault_count()
     }
 
-    fn moment(&self) -> u64 {
+    // Each name stands for a file.
+    fn moment(&self) -> u64
+        ensures moment { IsMoment (memory_view self.now) result }
+        ensures lawful { IsLawfulWhere (memory_view self.now) }
+        ensures proper { IsAt (memory_view self.now) IsProper }
+    {
         self.present()
     }
 
