@@ -79,32 +79,59 @@ fn three_keys_of_one_home(rt: HostRuntime) -> Result<(), Fail> {
     Ok(())
 }
 
+// A key's place in an empty bucket is its home.
+#[test]
+fn homes_of_keys(rt: HostRuntime) -> Result<(), Fail> {
+    let rows: [(&[u8], u32, u32); 6] = [
+        (b"\x80", 166, 6),
+        (b"k", 166, 101),
+        (b"k", 16, 7),
+        (b"", 166, 61),
+        (b"A----z", 16, 14),
+        (b"a----j", 16, 14),
+    ];
+    for (key, elems, want) in rows {
+        let mut bucket = Bucket::empty(rt.alloc(), elems, 0)?;
+        assert_eq!(rt; insert(&rt, &mut bucket, key, 0), want);
+    }
+    Ok(())
+}
+
+// Of keys that share a hash with the top bit 1 each goes to the second bucket, and `k`, whose top bit is 0, to the first:
+// before the split, or after the split of a full bucket.
 #[test]
 fn a_split(rt: HostRuntime) -> Result<(), Fail> {
-    let mut bucket = Bucket::empty(rt.alloc(), 16, 0)?;
-    bucket.push_free(gd_layout::Extent {
-        at: 1536,
-        size: 512,
-    });
-    assert_eq!(rt; insert(&rt, &mut bucket, b"k", 3), 7);
-    for i in 0..3 {
-        insert(&rt, &mut bucket, KEYS[i], i as u64);
-    }
-    let few = bucket.bits() < 24;
-    assert!(rt; few);
-    let (first, second) = split(rt.alloc(), &bucket)?;
-    assert!(rt; first.bits() == 1 && second.bits() == 1);
-    assert!(rt; first.free() == bucket.free() && second.free().is_empty());
-    assert!(rt; full_count(first.slots()) == 1 && full_count(second.slots()) == 3);
-    assert!(rt; first.slots().len() == 16 && second.slots().len() == 16);
-    assert!(rt; first_found(&rt, &first, b"k") == Some((0, 3)));
-    assert!(rt; first_found(&rt, &second, b"k").is_none());
-    for i in 0..3 {
-        assert!(rt; first_found(&rt, &first, KEYS[i]).is_none());
-        let Some((_, at)) = first_found(&rt, &second, KEYS[i]) else {
-            return Err("a key of the second".into());
-        };
-        assert_eq!(rt; at, i as u64);
+    for (keys, before) in [(3, true), (16, false)] {
+        let mut bucket = Bucket::empty(rt.alloc(), 16, 0)?;
+        bucket.push_free(gd_layout::Extent {
+            at: 1536,
+            size: 512,
+        });
+        if before {
+            assert_eq!(rt; insert(&rt, &mut bucket, b"k", 3), 7);
+        }
+        for (i, key) in KEYS.iter().take(keys).enumerate() {
+            insert(&rt, &mut bucket, key, i as u64);
+        }
+        let few = bucket.bits() < 24;
+        assert!(rt; few);
+        let (mut first, second) = split(rt.alloc(), &bucket)?;
+        assert!(rt; first.free() == bucket.free() && second.free().is_empty());
+        if !before {
+            assert_eq!(rt; insert(&rt, &mut first, b"k", 3), 7);
+        }
+        assert!(rt; first.bits() == 1 && second.bits() == 1);
+        assert!(rt; full_count(first.slots()) == 1 && full_count(second.slots()) == keys);
+        assert!(rt; first.slots().len() == 16 && second.slots().len() == 16);
+        assert!(rt; first_found(&rt, &first, b"k") == Some((0, 3)));
+        assert!(rt; first_found(&rt, &second, b"k").is_none());
+        for (i, key) in KEYS.iter().take(keys).enumerate() {
+            assert!(rt; first_found(&rt, &first, key).is_none());
+            let Some((_, at)) = first_found(&rt, &second, key) else {
+                return Err("a key of the second".into());
+            };
+            assert_eq!(rt; at, i as u64);
+        }
     }
     Ok(())
 }

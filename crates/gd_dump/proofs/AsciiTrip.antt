@@ -174,12 +174,12 @@ plain-value (b ∷ part) e =
     ∙ ap₂ (λ (x y : List ℕ). Some (x, y)) (take_all (length whole) whole (omega arith)) (drop_all (length whole) whole (omega arith))
 
 -- the line of the file's name
-file-said : (part : List ℕ) → list_all is_plain part ≡ true → length part ≤ 4000 → with_line (record { version = true; format = None; file = None }) (codes "#:file=" ++ part) ≡ Ok (record { version = true; format = None; file = Some part })
+file-said : (part : List ℕ) → list_all is_plain part ≡ true → length part ≤ 4000 → with_line (record { version = true; format = None; file = None }) true (codes "#:file=" ++ part) ≡ Ok (record { version = true; format = None; file = Some part })
 unfolding some_params
 file-said part e small =
     let line = codes "#:file=" ++ part in
     let named : Named = record { version = true; format = None; file = None } in
-    cond-false (is_overlong line) (Err Parameter) (if_params named (params_in (drop 2 line))) (short-line line (omega (arith, small)))
+    cond-false (is_overlong true line) (Err Parameter) (if_params named (params_in (drop 2 line))) (short-line true line (omega (arith, small)))
     ∙ ap (λ v. if_params named (with_value (codes "file") v (some_params (length (codes "ile=" ++ part))))) (plain-value part e)
 
 lines-plain : (part rest : List ℕ) → list_all is_plain part ≡ true → lines_in (part ++ 10 ∷ rest) ≡ (record { text = part; ended = true }) ∷ lines_in rest

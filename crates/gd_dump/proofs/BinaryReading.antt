@@ -29,14 +29,14 @@ or-on true true e = refl
 or-on false true e = refl
 or-on a false e = absurd (cc)
 
-overlong-told : (n place : ℕ) (line : List ℕ) (after : Option (List ℕ)) (next : ℕ → List ℕ → Told) → is_overlong line ≡ true → head_line_told n place line after next ≡ refused Version place
-overlong-told n place line None next long = cond-true (is_no_head line) (refused Version place) (refused Truncated (place + length line)) (or-on _ (is_overlong line) long)
+overlong-told : (n place : ℕ) (line : List ℕ) (after : Option (List ℕ)) (next : ℕ → List ℕ → Told) → ((ended : Bool) → is_overlong ended line ≡ true) → head_line_told n place line after next ≡ refused Version place
+overlong-told n place line None next long = cond-true (is_no_head line) (refused Version place) (refused Truncated (place + length line)) (or-on _ (is_overlong false line) (long false))
 overlong-told n place line (Some rest) next long =
-    cond-false (is_head_line n line) (next (place + length line + 1) rest) (refused Version place) (and-off (starts_with eqb line (codes "!")) (is_overlong line) _ long)
+    cond-false (is_head_line n line) (next (place + length line + 1) rest) (refused Version place) (and-off (starts_with eqb line (codes "!")) (is_overlong true line) _ (long true))
 
-overlong-left : (n place : ℕ) (held piece rest : List ℕ) → NoFeed piece (length piece) → is_overlong (held ++ piece) ≡ true → head_left (suc n) place held (piece ++ rest) ≡ refused Version place
+overlong-left : (n place : ℕ) (held piece rest : List ℕ) → NoFeed piece (length piece) → is_overlong true (held ++ piece) ≡ true → head_left (suc n) place held (piece ++ rest) ≡ refused Version place
 overlong-left n place held piece rest none long =
-    part-left n place held piece rest none ∙ overlong-told n place ((held ++ piece) ++ (first_line rest).0) (first_line rest).1 _ (overlong-more (held ++ piece) (first_line rest).0 long)
+    part-left n place held piece rest none ∙ overlong-told n place ((held ++ piece) ++ (first_line rest).0) (first_line rest).1 _ (λ ended. overlong-more ended (held ++ piece) (first_line rest).0 long)
 
 line-left : (n place : ℕ) (held piece rest : List ℕ) (end : ℕ) → end < length piece → NoFeed piece end → get_or piece end 0 ≡ 10
     → head_left (suc n) place held (piece ++ rest) ≡ head_line_told n place (held ++ take end piece) (Some (drop (end + 1) piece ++ rest)) (head_told pairs_told n)
@@ -71,7 +71,7 @@ part-phase p n place held piece rest is none =
     let e = at-phase p n is in
     ap (λ q. left_in q place held (piece ++ rest)) e ∙ part-left n place held piece rest none ∙ sym (ap (λ q. left_in q place (held ++ piece) rest) e)
 
-pub overlong-phase : (p : Phase) (n place : ℕ) (held piece rest : List ℕ) → p ≡ Head (n + 1) → NoFeed piece (length piece) → is_overlong (held ++ piece) ≡ true → left_in p place held (piece ++ rest) ≡ refused Version place
+pub overlong-phase : (p : Phase) (n place : ℕ) (held piece rest : List ℕ) → p ≡ Head (n + 1) → NoFeed piece (length piece) → is_overlong true (held ++ piece) ≡ true → left_in p place held (piece ++ rest) ≡ refused Version place
 overlong-phase p n place held piece rest is none long = ap (λ q. left_in q place held (piece ++ rest)) (at-phase p n is) ∙ overlong-left n place held piece rest none long
 
 pub good-phase : (p : Phase) (n place : ℕ) (held piece rest : List ℕ) (end : ℕ) → p ≡ Head (n + 1) → end < length piece → NoFeed piece end → get_or piece end 0 ≡ 10 → is_head_line n (held ++ take end piece) ≡ true

@@ -87,7 +87,7 @@ named-in n named place (s ∷ ss) less =
     let next = place + size_of s.line in
     let text = s.line.text in
     either n (not (is_comment text)) _ _
-    (after-names n place (with_line named text) _ (λ h. no-body n next s.body _ (named-in n h next ss (omega (arith, less)))))
+    (after-names n place (with_line named s.line.ended text) _ (λ h. no-body n next s.body _ (named-in n h next ss (omega (arith, less)))))
     (either n (bytes_eq text (codes "# End of header")) _ _
     (either n named.version _ _ (first-item n _ next _ less (no-body n next s.body _ (data-in n 0 None next ss (omega (arith, less))))) (no-items n Version place))
     (no-body n next s.body _ (named-in n named next ss (omega (arith, less)))))

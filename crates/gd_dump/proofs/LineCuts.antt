@@ -1,5 +1,5 @@
 -- The first line of bytes that come in two parts.
-use Rattle.std.proofs.Common.{◌≡◌, ◌∙◌, ap, sym, refl, ℕ, suc, ◌+◌, ◌-◌, eqb, ◌<◌, ◌≤◌, Bool, true, false, List, [], ◌∷◌, ◌++◌, length, take, drop, get_or, Option, Some, arith, append-nil, cond}
+use Rattle.std.proofs.Common.{◌≡◌, ◌∙◌, ap, sym, refl, ℕ, suc, ◌+◌, ◌-◌, eqb, ◌<◌, ◌≤◌, Bool, true, false, ◌&&◌, List, [], ◌∷◌, ◌++◌, length, take, drop, get_or, Option, Some, arith, append-nil, cond}
 use Rattle.std.proofs.lemmas.List.{append_assoc, length-append, length-take-le, take-append-drop, get_or-take, drop_more}
 use Rattle.std.proofs.lemmas.Bool.{cond-false, ne_eqb, le-ltb, ltb-true, lt-ltb}
 use Rattle.std.specs.List.{ends_with}
@@ -24,7 +24,7 @@ line-at xs rest i inside none feed =
     ∙ append_assoc (take i xs) (10 ∷ drop (i + 1) xs) rest in
     ap first_line cut ∙ line-ended (take i xs) (drop (i + 1) xs ++ rest) before
 
--- what is too long stays so
+-- what is too long even where a line feed comes stays so
 counted : Bool → ℕ → ℕ
 counted b n = cond b (n - 1) n
 
@@ -38,15 +38,18 @@ unfolding counted
 counted-most true n = omega arith
 counted-most false n = omega arith
 
-pub overlong-more : (xs ys : List ℕ) → is_overlong xs ≡ true → is_overlong (xs ++ ys) ≡ true
+pub overlong-more : (ended : Bool) (xs ys : List ℕ) → is_overlong true xs ≡ true → is_overlong ended (xs ++ ys) ≡ true
 unfolding counted
-overlong-more xs [] long = ap is_overlong (append-nil xs) ∙ long
-overlong-more xs (y ∷ ys) long =
-    let least = counted-least (ends_with eqb (xs ++ y ∷ ys) (13 ∷ [])) (length (xs ++ y ∷ ys)) in
+overlong-more true xs [] long = ap (is_overlong true) (append-nil xs) ∙ long
+overlong-more false xs [] long =
+    let most = counted-most (ends_with eqb xs (13 ∷ [])) (length xs) in
+    ap (is_overlong false) (append-nil xs) ∙ lt-ltb 65536 _ (omega (arith, most, ltb-true 65536 _ long))
+overlong-more ended xs (y ∷ ys) long =
+    let least = counted-least (ended && ends_with eqb (xs ++ y ∷ ys) (13 ∷ [])) (length (xs ++ y ∷ ys)) in
     let most = counted-most (ends_with eqb xs (13 ∷ [])) (length xs) in
     let len = length-append xs (y ∷ ys) in
     lt-ltb 65536 _ (omega (arith, least, most, len, ltb-true 65536 _ long))
 
-pub short-line : (line : List ℕ) → length line ≤ 65536 → is_overlong line ≡ false
+pub short-line : (ended : Bool) (line : List ℕ) → length line ≤ 65536 → is_overlong ended line ≡ false
 unfolding counted
-short-line line small = le-ltb 65536 _ (omega (arith, small, counted-most (ends_with eqb line (13 ∷ [])) (length line)))
+short-line ended line small = le-ltb 65536 _ (omega (arith, small, counted-most (ended && ends_with eqb line (13 ∷ [])) (length line)))

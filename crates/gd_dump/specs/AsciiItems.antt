@@ -142,7 +142,7 @@ named_told named place [] = refused Truncated place
 named_told named place (s ∷ ss) =
     let text = s.line.text in
     let next = place + size_of s.line in
-    if not (is_comment text) then and_named place (with_line named text) (λ h. unless_body next s.body (named_told h next ss))
+    if not (is_comment text) then and_named place (with_line named s.line.ended text) (λ h. unless_body next s.body (named_told h next ss))
     else (if bytes_eq text (codes "# End of header") then
     (if named.version then given (Head (record { format = named.format; file = named.file })) next (unless_body next s.body (data_told 0 None next ss)) else refused Version place)
     else unless_body next s.body (named_told named next ss))

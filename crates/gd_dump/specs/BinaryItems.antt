@@ -1,5 +1,5 @@
 -- What a binary dump is read as.
-use Rattle.std.specs.Prelude.{ℕ, zero, suc, ◌+◌, ◌^◌, ◌==◌, ◌&&◌, ◌||◌, not, nat_lt, Bool, List, [], ◌∷◌, length, take, drop, codes, Option, Some, None, eqb, if◌then◌else◌}
+use Rattle.std.specs.Prelude.{ℕ, zero, suc, ◌+◌, ◌^◌, ◌==◌, ◌&&◌, ◌||◌, not, nat_lt, Bool, true, false, List, [], ◌∷◌, length, take, drop, codes, Option, Some, None, eqb, if◌then◌else◌}
 use Rattle.std.specs.Int.{w32, from_be_bytes}
 use Rattle.std.specs.List.{starts_with}
 use Rattle.gd_dump.specs.Lines.{contains, first_line, is_overlong}
@@ -11,11 +11,11 @@ use Rattle.gd_dump.specs.declared.items.Item.TheVariants.{Head, Pair, End}
 
 -- a line of the head, which n more lines follow: it begins with '!', and the second says that this is a dump
 abbrev pub is_head_line : ℕ → List ℕ → Bool
-is_head_line n line = starts_with eqb line (codes "!") && not (is_overlong line) && (not (n == 2) || contains (codes "GDBM FLAT FILE DUMP") line)
+is_head_line n line = starts_with eqb line (codes "!") && not (is_overlong true line) && (not (n == 2) || contains (codes "GDBM FLAT FILE DUMP") line)
 
 -- a line that the input's end cuts short can't become such a line
 abbrev pub is_no_head : List ℕ → Bool
-is_no_head line = not (length line == 0) && not (starts_with eqb line (codes "!")) || is_overlong line
+is_no_head line = not (length line == 0) && not (starts_with eqb line (codes "!")) || is_overlong false line
 
 -- a line at this place, and what the bytes behind it tell from the next place on
 abbrev pub head_line_told : ℕ → ℕ → List ℕ → Option (List ℕ) → (ℕ → List ℕ → Told) → Told

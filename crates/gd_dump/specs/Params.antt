@@ -90,5 +90,5 @@ if_params named None = Err Parameter
 if_params named (Some ps) = with_params named ps
 
 -- a line that begins with "#:", in a head that said this before
-abbrev pub with_line : Named → List ℕ → Result Named DumpKind
-with_line named line = if is_overlong line then Err Parameter else if_params named (params_in (drop 2 line))
+abbrev pub with_line : Named → Bool → List ℕ → Result Named DumpKind
+with_line named ended line = if is_overlong ended line then Err Parameter else if_params named (params_in (drop 2 line))

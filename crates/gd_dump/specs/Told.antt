@@ -95,12 +95,12 @@ Feeds old new before after piece (Ok fed) = (fed.taken ≤ length piece) × (aft
 Feeds old new before after piece (Err (Bad kind place)) = (after ≡ 0) × ((rest : List ℕ) → (old (piece ++ rest) ≡ refused kind place) × (new rest ≡ refused kind place))
 Feeds old new before after piece (Err OutOfMemory) = (after ≡ before) × ((rest : List ℕ) → new (piece ++ rest) ≡ old (piece ++ rest))
 
--- nothing more comes: the next item, if there is one
+-- nothing more comes: the next item, if there is one; after want of memory all is as before
 abbrev pub Finishes : (List ℕ → Told) → (List ℕ → Told) → ℕ → ℕ → Result (Option Item) DumpError → Type 0
 Finishes old new before after (Ok (Some item)) = (after ≡ before) × (old [] ≡ given item after (new []))
 Finishes old new before after (Ok None) = (after ≡ before) × (old [] ≡ nothing) × (new [] ≡ nothing)
 Finishes old new before after (Err (Bad kind place)) = (after ≡ 0) × (old [] ≡ refused kind place) × ((rest : List ℕ) → new rest ≡ refused kind place)
-Finishes old new before after (Err OutOfMemory) = (after ≡ before) × (new [] ≡ old [])
+Finishes old new before after (Err OutOfMemory) = (after ≡ before) × ((rest : List ℕ) → new rest ≡ old rest)
 
 -- the refusal that a reader has answered, before and after a call: it is answered again
 abbrev pub Repeats : {T : Type 0} → Option Refusal → Option Refusal → Result T DumpError → Type 0

@@ -105,7 +105,7 @@ impl AsciiMachine {
         requires fits { self.old.place + size_of (record { text = self.old.line.items; ended = ended }) ≤ 2 ^ 63 - 1 }
         ensures { Follows self.old self.new ended (self.old.place + size_of (record { text = self.old.line.items; ended = ended })) result }
     {
-        match say_line(self.alloc, &mut self.named, &self.line) {
+        match say_line(self.alloc, &mut self.named, &self.line, ended) {
             Ok(()) => {
                 self.next_line(ended);
                 Ok(None)

@@ -43,10 +43,11 @@ pub struct BinaryMachine {
     ghost no_more: { vec_len held ≤ room phase held.items },
 }
 
-pub fn overlong(line: &[u8]) -> bool
-    ensures { result ≡ is_overlong line.now }
+// Is the line too long, where a line feed ends it or not?
+pub fn overlong(line: &[u8], ended: bool) -> bool
+    ensures { result ≡ is_overlong ended line.now }
 {
-    let counted = if line.ends_with(b"\r") {
+    let counted = if ended && line.ends_with(b"\r") {
         line.len() - 1
     } else {
         line.len()
@@ -69,14 +70,14 @@ fn head_line(after: u8, line: &[u8]) -> bool
     ensures { result ≡ is_head_line after line.now }
 {
     line.starts_with(b"!")
-        && !overlong(line)
+        && !overlong(line, true)
         && (after != 2 || contains_part(line, b"GDBM FLAT FILE DUMP"))
 }
 
 fn no_head(line: &[u8]) -> bool
     ensures { result ≡ is_no_head line.now }
 {
-    !line.is_empty() && !line.starts_with(b"!") || overlong(line)
+    !line.is_empty() && !line.starts_with(b"!") || overlong(line, false)
 }
 
 fn length_at(bytes: &[u8], at: usize) -> usize
@@ -139,7 +140,8 @@ impl BinaryMachine {
         if self.held.extend_from_slice(piece).is_err() {
             return Err(DumpError::OutOfMemory);
         }
-        if overlong(&self.held) {
+        // Too long even where a line feed comes next.
+        if overlong(&self.held, true) {
             return Err(DumpError::Bad {
                 kind: DumpKind::Version,
                 place: self.place,

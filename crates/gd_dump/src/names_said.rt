@@ -60,12 +60,12 @@ fn say_all(named: &mut Named, mut params: Vec<Param>) -> Result<(), DumpKind>
     Ok(())
 }
 
-/// What a line that begins with `#:` says. After want of memory nothing has been said.
-pub fn say_line(alloc: Global, named: &mut Named, line: &[u8]) -> Result<(), LineError>
+/// What a line that begins with `#:` says, where a line feed ends it or not. After want of memory nothing has been said.
+pub fn say_line(alloc: Global, named: &mut Named, line: &[u8], ended: bool) -> Result<(), LineError>
     requires { 2 ≤ length line.now }
-    ensures { SaysLine (with_line named.old line.now) named.old named.new result }
+    ensures { SaysLine (with_line named.old ended line.now) named.old named.new result }
 {
-    if overlong(line) {
+    if overlong(line, ended) {
         return Err(LineError::Refused(DumpKind::Parameter));
     }
     match params_of(alloc, &line[2..]) {

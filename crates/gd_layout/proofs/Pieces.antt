@@ -1,6 +1,6 @@
 -- Bytes that are written at a place, and the fields before it.
-use Rattle.std.proofs.Common.{◌≡◌, ℕ, ◌+◌, ◌-◌, ◌^◌, ◌<◌, ◌≤◌, List, [], ◌++◌, length, take, drop, sym, ap, ◌∙◌, arith, length-drop}
-use Rattle.std.proofs.lemmas.List.{take-take, drop-take, drop-drop, drop_at, drop_all, take_at, take_rest, append-nil, take-append-le, length-take-le}
+use Rattle.std.proofs.Common.{◌≡◌, ℕ, ◌+◌, ◌-◌, ◌^◌, ◌<◌, ◌≤◌, List, [], ◌++◌, length, take, drop, get_or, sym, ap, ◌∙◌, arith, length-drop}
+use Rattle.std.proofs.lemmas.List.{take-take, drop-take, drop-drop, drop_at, drop_all, take_at, take_rest, append-nil, take-append-le, length-take-le, get_or-take, get_or-drop}
 use Rattle.std.proofs.lemmas.Int.{to_z_pos}
 use Rattle.std.specs.Prelude.{pos}
 use Rattle.std.specs.Int.{w32, w64, cast_signed}
@@ -81,6 +81,24 @@ put-back a k m xs ys bs h ek len e =
     let rest : take k (drop a xs) ≡ drop a xs = ap (λ (j : ℕ). take j (drop a xs)) ek ∙ take_rest xs a in
     sym (drop-drop m a (put_mid a k xs ys)) ∙ ap (drop m) (put_rest a k xs ys h ek ∙ e ∙ ap (λ (r : List ℕ). bs ++ drop m r) rest) ∙ drop_at bs (drop m (drop a xs)) m len
     ∙ drop-drop m a xs
+
+-- what lies behind a part in the middle stays
+pub mid-back : (a k m : ℕ) (xs ys : List ℕ) → a ≤ length xs → k ≡ m → length ys ≡ m → drop (a + m) (put_mid a k xs ys) ≡ drop (a + m) xs
+mid-back a k m xs ys h ek len =
+    sym (drop-drop m a (put_mid a k xs ys)) ∙ ap (drop m) (drop_at (take a xs) (ys ++ post_of a k xs) a (length-take-le a xs h)) ∙ drop_at ys (post_of a k xs) m len
+    ∙ ap (λ (j : ℕ). drop j (drop a xs)) ek ∙ drop-drop m a xs
+
+-- one byte of a shared front, and of a shared rest
+pub byte-front : (i m : ℕ) (xs ys : List ℕ) → i < m → take m xs ≡ take m ys → get_or xs i 0 ≡ get_or ys i 0
+byte-front i m xs ys lt e = sym (get_or-take m xs i 0 lt) ∙ ap (λ (zs : List ℕ). get_or zs i 0) e ∙ get_or-take m ys i 0 lt
+
+pub byte-back : (i m : ℕ) (xs ys : List ℕ) → m ≤ i → drop m xs ≡ drop m ys → get_or xs i 0 ≡ get_or ys i 0
+byte-back i m xs ys le e =
+    let whole : m + (i - m) ≡ i = omega arith in
+    ap (get_at xs) (sym whole) ∙ sym (get_or-drop m xs (i - m) 0) ∙ ap (λ (zs : List ℕ). get_or zs (i - m) 0) e ∙ get_or-drop m ys (i - m) 0 ∙ ap (get_at ys) whole
+  where
+    get_at : List ℕ → ℕ → ℕ
+    get_at zs j = get_or zs j 0
 
 -- a number from 0 on, as a field with a sign
 pub i32_is : (xs : List ℕ) (at n : ℕ) → u32_at xs at ≡ n → n < 2 ^ 31 → i32_at xs at ≡ pos n

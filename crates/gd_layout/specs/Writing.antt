@@ -1,5 +1,5 @@
 -- What stands in a block where a slot, an extent, a header or a block of free space was written.
-use Rattle.std.specs.Prelude.{◌≡◌, ℕ, ◌+◌, ◌*◌, ◌<◌, pos, true, List, [], ◌∷◌, length, get_or}
+use Rattle.std.specs.Prelude.{◌≡◌, ℕ, ◌+◌, ◌*◌, ◌<◌, ◌≤◌, pos, true, List, [], ◌∷◌, length, get_or, slice_index, slice_index_or}
 use Rattle.std.specs.Int.{w64, cast_signed}
 use Rattle.gd_format.specs.declared.Extent.{Extent}
 use Rattle.gd_format.specs.declared.Header.{Header}
@@ -7,7 +7,8 @@ use Rattle.gd_format.specs.declared.RawAvail.{RawAvail}
 use Rattle.gd_format.specs.declared.RawSlot.{RawSlot}
 use Rattle.gd_format.specs.declared.RawExtent.{RawExtent}
 use Rattle.gd_format.specs.Field.{bytes_at, u32_at, i32_at, i64_at}
-use Rattle.gd_format.specs.Bucket.{extent_of}
+use Rattle.gd_format.specs.declared.Slot.TheVariants.{Empty}
+use Rattle.gd_format.specs.Bucket.{Bucket, extent_of}
 use Rattle.gd_format.specs.Avail.{Avail, is_extent_right}
 use Rattle.gd_format.specs.HeaderFault.{RawHeader, dir_size_of}
 use Rattle.gd_layout.specs.Fits.{FitsExtent}
@@ -34,6 +35,15 @@ pub record IsPut (block : List ℕ) (at : ℕ) (e : Extent) : Type 0 where
 -- these extents stand one after another from a place on
 abbrev pub ArePut : List ℕ → ℕ → List Extent → Type 0
 ArePut block at es = (k : ℕ) (d : Extent) → k < length es → IsPut block (at + 16 * k) (get_or es k d)
+
+-- the block of a bucket has zeros for all that is no field: behind the number of free extents, between the fields of each,
+-- from the last of them to the bits, behind the hash of an empty slot, and behind the slots
+pub record HasZeros (block : List ℕ) (b : Bucket) : Type 0 where
+  pub behind_count : (i : ℕ) → 4 ≤ i → i < 8 → slice_index block i ≡ 0
+  pub padding : (e : ℕ) → e < length b.free → u32_at block (12 + 16 * e) ≡ 0
+  pub behind_free : (i : ℕ) → 8 + 16 * length b.free ≤ i → i < 104 → slice_index block i ≡ 0
+  pub empty : (s i : ℕ) → s < length b.slots → slice_index_or b.slots s Empty ≡ Empty → 4 ≤ i → i < 24 → slice_index block (112 + 24 * s + i) ≡ 0
+  pub behind_slots : (i : ℕ) → 112 + 24 * length b.slots ≤ i → slice_index block i ≡ 0
 
 -- the fields of a header as they stand in its block
 abbrev pub raw_header_from : Header → RawHeader

@@ -1,6 +1,6 @@
 //! Writing a bucket into its block.
 
-ghost use Rattle.std.specs.Prelude.{◌≡◌, ◌+◌, ◌*◌, ◌^◌, ◌<◌, ◌≤◌, true, length, take, drop};
+ghost use Rattle.std.specs.Prelude.{◌≡◌, ◌+◌, ◌*◌, ◌^◌, ◌<◌, ◌≤◌, ℕ, true, length, take, drop, slice_index, slice_index_or};
 ghost use Rattle.std.specs.Int.{w32, w64, cast_signed};
 ghost use Rattle.std.specs.List.{All};
 ghost use Rattle.gd_format.specs.Field.{bytes_at, u32_at, u64_at};
@@ -8,7 +8,7 @@ ghost use Rattle.gd_format.specs.Bucket.{slot_of, is_slot_signed_right, slots_at
 ghost use Rattle.gd_format.specs.File.{is_count_right};
 ghost use Rattle.gd_format.specs.Slots.{count, is_full};
 ghost use Rattle.gd_layout.specs.Fits.{FitsFields};
-ghost use Rattle.gd_layout.specs.Writing.{ArePut, IsPut, raw_slot_from};
+ghost use Rattle.gd_layout.specs.Writing.{ArePut, HasZeros, IsPut, raw_slot_from};
 
 use crate::{Bucket, Layout};
 use byteorder::{ByteOrder, LittleEndian};
@@ -36,6 +36,7 @@ fn put_four(block: &mut [u8], at: usize, bytes: [u8; 4])
     requires { at + 4 ≤ length block.old }
     ensures reads { bytes_at block.new at 4 ≡ bytes }
     ensures front { take at block.new ≡ take at block.old }
+    ensures back { drop (at + 4) block.new ≡ drop (at + 4) block.old }
 {
     block[at..at + 4].copy_from_slice(&bytes);
 }
@@ -47,6 +48,8 @@ fn put_slot(block: &mut [u8], at: usize, slot: &Slot)
     ensures reads { slot_of (raw_slot_from block.new at) ≡ slot.now }
     ensures right { is_slot_signed_right (raw_slot_from block.new at) ≡ true }
     ensures front { take at block.new ≡ take at block.old }
+    ensures back { drop (at + 24) block.new ≡ drop (at + 24) block.old }
+    ensures empty { slot.now ≡ Slot.Empty → drop (at + 4) block.new ≡ drop (at + 4) block.old }
 {
     match *slot {
         Slot::Empty => put_u32(block, at, u32::MAX),
@@ -96,6 +99,8 @@ fn put_slots(block: &mut [u8], slots: &[Slot])
     ensures reads { slots_at block.new (length slots.now) ≡ slots.now }
     ensures right { are_slots_right block.new (length slots.now) ≡ true }
     ensures front { take 112 block.new ≡ take 112 block.old }
+    ensures back { drop (112 + 24 * length slots.now) block.new ≡ drop (112 + 24 * length slots.now) block.old }
+    ensures empty { (s i : ℕ) → s < length slots.now → slice_index_or slots.now s Slot.Empty ≡ Slot.Empty → 4 ≤ i → i < 24 → slice_index block.new (112 + 24 * s + i) ≡ slice_index block.old (112 + 24 * s + i) }
 {
     for (s, slot) in slots.iter().enumerate() {
         put_slot(block, 112 + 24 * s, slot);
@@ -131,6 +136,7 @@ impl Layout<8, 0> {
         ensures reads { bucket_at into.new (length bucket.now.slots) ≡ bucket.now }
         ensures right { is_bucket into.new (length bucket.now.slots) ≡ true }
         ensures count { is_count_right into.new (length bucket.now.slots) ≡ true }
+        ensures zeros { HasZeros into.new bucket.now }
     {
         into.fill(0);
         put_u32(into, 0, bucket.free().len() as u32);

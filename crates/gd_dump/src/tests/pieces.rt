@@ -7,6 +7,8 @@ use crate::{AsciiReader, BinaryReader, DumpError, DumpKind};
 use std::alloc::Global;
 use std::process::Abort;
 
+const HEAD_END: &[u8] = b"# End of header\n";
+
 // How many bytes each call takes that is given all that is left.
 fn taken_by_ascii(rt: &impl Abort, alloc: Global, bytes: &[u8]) -> Vec<usize> {
     let mut reader = AsciiReader::new(alloc);
@@ -98,24 +100,40 @@ fn feeding_answers_a_refusal_again(rt: HostRuntime) {
     assert!(rt; refuses_binary(&mut reader, b""));
 }
 
-// A line of parameters has at most 65,536 bytes, of which a carriage return at its end is not counted.
+// A line of parameters has at most 65,536 bytes. A line feed is not counted, nor a carriage return before it; one that
+// no line feed follows is.
 #[test]
 fn bounds_the_lines_of_parameters(rt: HostRuntime) {
-    let rows: [(usize, &[u8], &[u8], DumpKind, u64); 4] = [
-        (65_536, b"\n", b"head ", DumpKind::Truncated, 65_553),
-        (65_537, b"\n", b"", DumpKind::Parameter, 0),
-        (65_536, b"\r\n", b"head ", DumpKind::Truncated, 65_554),
-        (65_537, b"\r\n", b"", DumpKind::Parameter, 0),
+    let rows: [(usize, &[u8], &[u8], &[u8], DumpKind, u64); 6] = [
+        (
+            65_536,
+            b"\n",
+            HEAD_END,
+            b"head ",
+            DumpKind::Truncated,
+            65_553,
+        ),
+        (65_537, b"\n", HEAD_END, b"", DumpKind::Parameter, 0),
+        (
+            65_536,
+            b"\r\n",
+            HEAD_END,
+            b"head ",
+            DumpKind::Truncated,
+            65_554,
+        ),
+        (65_537, b"\r\n", HEAD_END, b"", DumpKind::Parameter, 0),
+        (65_535, b"\r", b"", b"", DumpKind::Truncated, 65_536),
+        (65_536, b"\r", b"", b"", DumpKind::Parameter, 0),
     ];
-    for (len, end, want, kind, place) in rows {
+    for (len, end, rest, want, kind, place) in rows {
         let mut text = Vec::new(rt.alloc());
         let value = vec![in rt.alloc(); b'a'; len - 16].expect(&rt, "memory");
         text.extend_from_slice(b"#:version=1.1,x=")
             .expect(&rt, "memory");
         text.extend_from_slice(&value).expect(&rt, "memory");
         text.extend_from_slice(end).expect(&rt, "memory");
-        text.extend_from_slice(b"# End of header\n")
-            .expect(&rt, "memory");
+        text.extend_from_slice(rest).expect(&rt, "memory");
         let (read, error) = read_ascii(&rt, rt.alloc(), &text, 70_000);
         assert_eq!(rt; read.as_slice(), want, "{len}");
         assert_eq!(rt; error, Some(DumpError::Bad { kind, place }), "{len}");

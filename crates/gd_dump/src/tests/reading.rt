@@ -115,9 +115,8 @@ fn reads_binary_in_pieces(rt: HostRuntime) {
     }
 }
 
-#[test]
-fn refuses_binary_where_it_is_cut_or_wrong(rt: HostRuntime) {
-    let rows: [(&[u8], &[u8], DumpKind, u64); 13] = [
+fn cut_or_wrong_binary() -> [(&'static [u8], &'static [u8], DumpKind, u64); 13] {
+    [
         (b"", b"", DumpKind::Truncated, 0),
         (b"!\n!", b"", DumpKind::Truncated, 3),
         (b"\n", b"", DumpKind::Version, 0),
@@ -166,8 +165,12 @@ fn refuses_binary_where_it_is_cut_or_wrong(rt: HostRuntime) {
             DumpKind::TooLarge,
             34,
         ),
-    ];
-    for (bytes, want, kind, place) in rows {
+    ]
+}
+
+#[test]
+fn refuses_binary_where_it_is_cut_or_wrong(rt: HostRuntime) {
+    for (bytes, want, kind, place) in cut_or_wrong_binary() {
         for size in [1, 7, 150] {
             let (text, error) = read_binary(&rt, rt.alloc(), bytes, size);
             assert_eq!(rt; text.as_slice(), want, "{bytes:?}");
@@ -185,14 +188,20 @@ fn refuses_binary_where_it_is_cut_or_wrong(rt: HostRuntime) {
     );
 }
 
-// 65,536 bytes are a line, and one more is none.
+// 65,536 bytes are a line, and one more is none. A carriage return is counted where no line feed follows it.
 #[test]
 fn bounds_the_lines_of_a_binary_head(rt: HostRuntime) {
-    for (len, kind, place) in [
-        (65_536, DumpKind::Truncated, 65_536),
-        (65_537, DumpKind::Version, 0),
-    ] {
-        let line = vec![in rt.alloc(); b'!'; len].expect(&rt, "memory");
+    let rows: [(usize, &[u8], DumpKind, u64); 6] = [
+        (65_536, b"", DumpKind::Truncated, 65_536),
+        (65_537, b"", DumpKind::Version, 0),
+        (65_535, b"\r", DumpKind::Truncated, 65_536),
+        (65_536, b"\r", DumpKind::Version, 0),
+        (65_536, b"\r\n", DumpKind::Truncated, 65_538),
+        (65_537, b"\r\n", DumpKind::Version, 0),
+    ];
+    for (len, end, kind, place) in rows {
+        let mut line = vec![in rt.alloc(); b'!'; len].expect(&rt, "memory");
+        line.extend_from_slice(end).expect(&rt, "memory");
         let (_, error) = read_binary(&rt, rt.alloc(), &line, 70_000);
         assert_eq!(rt; error, Some(DumpError::Bad { kind, place }));
     }
@@ -231,9 +240,8 @@ fn reads_ascii_in_pieces(rt: HostRuntime) {
     }
 }
 
-#[test]
-fn refuses_ascii_where_it_is_cut(rt: HostRuntime) {
-    let rows: [(usize, &[u8], DumpKind, u64); 15] = [
+fn cut_ascii() -> [(usize, &'static [u8], DumpKind, u64); 15] {
+    [
         (0, b"", DumpKind::Truncated, 0),
         (1, b"", DumpKind::Truncated, 1),
         (40, b"", DumpKind::Parameter, 38),
@@ -249,8 +257,12 @@ fn refuses_ascii_where_it_is_cut(rt: HostRuntime) {
         (134, PAIR, DumpKind::Parameter, 126),
         (135, PAIR, DumpKind::Truncated, 135),
         (148, PAIR, DumpKind::Truncated, 148),
-    ];
-    for (len, want, kind, place) in rows {
+    ]
+}
+
+#[test]
+fn refuses_ascii_where_it_is_cut(rt: HostRuntime) {
+    for (len, want, kind, place) in cut_ascii() {
         for size in [1, 2, 3, 150] {
             let bytes = ONE_RECORD.get(..len).unwrap_or(b"");
             let (text, error) = read_ascii(&rt, rt.alloc(), bytes, size);
@@ -260,9 +272,8 @@ fn refuses_ascii_where_it_is_cut(rt: HostRuntime) {
     }
 }
 
-#[test]
-fn reads_whole_ascii_dumps(rt: HostRuntime) {
-    let rows: [(&[u8], &[u8]); 8] = [
+fn whole_ascii() -> [(&'static [u8], &'static [u8]); 8] {
+    [
         (&ONE_RECORD[..149], b"head standard a.gdbm k=v end "),
         (
             b"# GDBM dump file created by GDBM version 1.23\n#:version=1.1\n#:file=junk.gdbm\n#:uid=1000,user=gray,gid=1000,group=users,mode=664\n#:format=numsync\n# End of header\n#:len=1\naw==\n#:len=1\ndg==\n#:count=1\n# End of data\n",
@@ -292,8 +303,12 @@ fn reads_whole_ascii_dumps(rt: HostRuntime) {
             b"#:version=1.1\n# End of header\n#:count=00000000000000000000\n# End of data\n",
             b"head end ",
         ),
-    ];
-    for (bytes, want) in rows {
+    ]
+}
+
+#[test]
+fn reads_whole_ascii_dumps(rt: HostRuntime) {
+    for (bytes, want) in whole_ascii() {
         for size in [1, 2, 3, 150] {
             let (text, error) = read_ascii(&rt, rt.alloc(), bytes, size);
             assert_eq!(rt; text.as_slice(), want, "{bytes:?}");
@@ -302,9 +317,8 @@ fn reads_whole_ascii_dumps(rt: HostRuntime) {
     }
 }
 
-#[test]
-fn refuses_wrong_heads(rt: HostRuntime) {
-    let rows: [(&[u8], DumpKind, u64); 11] = [
+fn wrong_heads() -> [(&'static [u8], DumpKind, u64); 11] {
+    [
         (b"x", DumpKind::Version, 0),
         (b"\n#", DumpKind::Version, 0),
         (b"#\nx", DumpKind::Parameter, 2),
@@ -316,17 +330,20 @@ fn refuses_wrong_heads(rt: HostRuntime) {
         (b"#:format=odd,version=9\n", DumpKind::Parameter, 0),
         (b"#:version=9,format=odd\n", DumpKind::Version, 0),
         (b"#:version=9,\n", DumpKind::Parameter, 0),
-    ];
-    for (bytes, kind, place) in rows {
+    ]
+}
+
+#[test]
+fn refuses_wrong_heads(rt: HostRuntime) {
+    for (bytes, kind, place) in wrong_heads() {
         let (text, error) = read_ascii(&rt, rt.alloc(), bytes, 150);
         assert_eq!(rt; text.as_slice(), b"".as_slice(), "{bytes:?}");
         assert_eq!(rt; error, Some(DumpError::Bad { kind, place }), "{bytes:?}");
     }
 }
 
-#[test]
-fn refuses_wrong_data(rt: HostRuntime) {
-    let rows: [(&[u8], &[u8], DumpKind, u64); 20] = [
+fn wrong_data() -> [(&'static [u8], &'static [u8], DumpKind, u64); 20] {
+    [
         (
             b"# GDBM dump file created by gdbm_dump\n#:version=1.1\n#:file=a.gdbm\n#:format=standard\n# End of header\n#:len=1\naw==\n#:len=1\ndg==\n#:count=2\n# End of data\n",
             b"head standard a.gdbm k=v ",
@@ -447,8 +464,12 @@ fn refuses_wrong_data(rt: HostRuntime) {
             DumpKind::Truncated,
             52,
         ),
-    ];
-    for (bytes, want, kind, place) in rows {
+    ]
+}
+
+#[test]
+fn refuses_wrong_data(rt: HostRuntime) {
+    for (bytes, want, kind, place) in wrong_data() {
         for size in [1, 150] {
             let (text, error) = read_ascii(&rt, rt.alloc(), bytes, size);
             assert_eq!(rt; text.as_slice(), want, "{bytes:?}");

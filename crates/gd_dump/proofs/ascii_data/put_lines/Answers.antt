@@ -27,7 +27,7 @@ loop-at-preserved g c =
         done.2 ∙ ap (λ t. done.0 ++ t) (line-next c.args.bytes.now c.loop-at.at c.min-end.result c.loop-at-test.true c.min-end.ensures)
             ∙ sym (append_assoc done.0 line rest),
       );
-      faults = omega (arith, c.loop-at.invariant.faults, c.put_line.ensures.cause.later);
+      faults = c.in_ok-put_line.ensures.cause.answered ∙ c.loop-at.invariant.faults;
       kept = g.met.O.Sink.kept_on c.args.out.now c.loop-at.out c.put_line.new.out c.loop-at.invariant.kept c.put_line.ensures.kept;
     }
 

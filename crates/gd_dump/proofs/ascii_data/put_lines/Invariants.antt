@@ -11,7 +11,7 @@ invariant-loop-at g l =
       at : l.at ≤ length l.bytes;
       put : (front : List ℕ) × Waits (sink.written l.fn.out) l.fn.page.items (sink.written l.out) l.page.items front
           × (lines_of (base64_text l.bytes) ≡ front ++ lines_of (base64_text (drop l.at l.bytes)));
-      faults : sink.fault_count l.fn.out ≤ sink.fault_count l.out;
+      faults : sink.fault_count l.out ≡ sink.fault_count l.fn.out;
       kept : sink.kept l.fn.out l.out;
     }
 

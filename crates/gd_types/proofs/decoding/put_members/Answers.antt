@@ -1,4 +1,4 @@
-use Rattle.std.proofs.Common.{◌++◌, ◌+◌, ◌&&◌, List, ℕ, not, arith, drop, get_or, subst}
+use Rattle.std.proofs.Common.{◌++◌, ◌+◌, ◌&&◌, List, ℕ, ◌∙◌, not, arith, drop, get_or, subst}
 use Rattle.std.specs.List.{flat_map}
 use Rattle.gd_base.specs.Streams.{WritesFront}
 use Rattle.gd_base.proofs.Waits.{Waits, pends-after, pends-front, waits-more}
@@ -55,7 +55,7 @@ loop-member-preserved g c =
         waits-more _ _ _ _ _ _ put.0 (flat_map (λ t. lead_of first delim ++ t) texts) put.1 written,
         printed-next members c.args.bytes.now delim at index first put.0 (Row 0) put.2 c.loop-member-test.true c.place_after-at.result c.stays_first-first.result c.place_after-at.ensures c.stays_first-first.ensures,
       );
-      faults = omega (arith, c.loop-member.invariant.faults, c.put_member.ensures.cause.later);
+      faults = c.in_ok-put_member.ensures.cause.answered ∙ c.loop-member.invariant.faults;
       kept = g.met.O.Sink.kept_on c.args.out.now c.loop-member.out c.put_member.new.out c.loop-member.invariant.kept c.put_member.ensures.kept;
     }
 

@@ -1,4 +1,4 @@
-use Rattle.std.proofs.Common.{arith, take, drop, get_or, ◌+◌, subst}
+use Rattle.std.proofs.Common.{◌∙◌, arith, take, drop, get_or, ◌+◌, subst}
 use Rattle.gd_base.proofs.Waits.{Waits, pends-after, pends-front, waits-more}
 use Rattle.gd_types.specs.Printing.{printed, printed_byte}
 use Rattle.gd_types.proofs.Spreading.{printed-more, printed-split}
@@ -22,6 +22,6 @@ loop-byte-preserved g c =
     record {
       put = subst (Waits (sink.written c.args.out.now) c.args.page.now.items (sink.written c.put_byte.new.out) c.put_byte.new.page.items) (printed-more bytes i c.loop-byte-test.true)
           (waits-more _ _ _ _ _ _ (printed (take i bytes)) (printed_byte (get_or bytes i 0)) c.loop-byte.invariant.put c.in_ok-put_byte.ensures.bytes);
-      faults = omega (arith, c.loop-byte.invariant.faults, c.put_byte.ensures.cause.later);
+      faults = c.in_ok-put_byte.ensures.cause.answered ∙ c.loop-byte.invariant.faults;
       kept = g.met.O.Sink.kept_on c.args.out.now c.loop-byte.out c.put_byte.new.out c.loop-byte.invariant.kept c.put_byte.ensures.kept;
     }
