@@ -19,7 +19,7 @@ use Rattle.gd_format.proofs.Firsts.{and-false}
 use Rattle.std.specs.Prelude.{nat_lt, nat_le}
 use Rattle.std.proofs.lemmas.Bool.Decides.{nat_tests}
 use Rattle.gd_space.proofs.Stacks.{is_right}
-use Rattle.gd_space.specs.Effect.{Change, Keeps, table_after, is_taken_back, TellsNone}
+use Rattle.gd_space.specs.Effect.{Change, Keeps, table_after, blocks_after, is_taken_back, TellsNone}
 use Rattle.gd_space.specs.Lists.{Took}
 use Rattle.gd_space.specs.SpaceLaws.{IsApart}
 use Rattle.gd_format.proofs.Covers.{cover-append, size_sum-append, all-append, all-left, all-right}
@@ -30,16 +30,16 @@ use Rattle.gd_space.specs.Spells.{Spells}
 use Rattle.gd_space.proofs.Sides.{Pushes, pushed, cover-past}
 use Rattle.gd_space.proofs.Pushes.{less_lost, table_below, bucket_below}
 
-pub done_by_push : (old new : View) (f : ℕ) (bs : List ℕ) (h : Header) (next' top : ℕ) (table bucket table' bucket' spare : List Extent) (e : Extent) (taken : List Extent) (lost : ℕ)
-    → TellsAfter (Write f e.at bs) true old.told new.told → Spells spare top bs → e.size - avail_size (length spare) ≤ lost
+pub done_by_push : (old new : View) (f : ℕ) (bs : List ℕ) (h : Header) (capacity next' top : ℕ) (table bucket table' bucket' spare : List Extent) (e : Extent) (taken : List Extent) (lost : ℕ)
+    → TellsAfter (Write f e.at bs) true old.told new.told → Spells capacity spare top bs → e.size - avail_size (length spare) ≤ lost
     → ((blocks : List StackBlock) (x : File) → IsFreeSide x.bytes h top (free_lists table blocks bucket) → Pushes h next' (free_lists table blocks bucket) table' bucket' spare e [] taken)
     → Done old new f h (record h { next_block = next' }) top e.at table bucket table' bucket' [] taken lost
-done_by_push old new f bs h next' top table bucket table' bucket' spare e taken lost wrote_ spells le pushes c x blocks told there side =
+done_by_push old new f bs h capacity next' top table bucket table' bucket' spare e taken lost wrote_ spells le pushes c x blocks told there side =
     let step = content_step (Write f e.at bs) true old.told new.told wrote_ c told in
     let change : Changes f (λ (x y : File). y ≡ record x { bytes = written x.bytes e.at bs }) c step.0 = step.2 in
     let y = change.file x there in
     let bytes : y.0.bytes ≡ written x.bytes e.at bs = ap (λ (z : File). z.bytes) y.2 in
-    let done = pushed x.bytes bs h next' top (free_lists table blocks bucket) table' bucket' spare e [] taken side (pushes blocks x side) spells in
+    let done = pushed x.bytes bs h capacity next' top (free_lists table blocks bucket) table' bucket' spare e [] taken side (pushes blocks x side) spells in
     record {
       content = step.0;
       file = y.0;
@@ -153,28 +153,28 @@ top_zero : (file : List ℕ) (most : ℕ) (blocks : List StackBlock) → IsStack
 top_zero file most [] is = refl
 top_zero file most (b ∷ bs) is = let start = (is_right file most b.at is.1.right).start in let z = is.0 in absurd (grind (arith, nat_tests, start, z))
 
-pub backed_none : (file : List ℕ) (h : Header) (top : ℕ) (table bucket : List Extent) (blocks : List StackBlock) → table ≡ table_after h.avail_size table blocks → IsFreeSide file h top (free_lists table blocks bucket) → BackedTo file h top table table blocks bucket
-backed_none file h top table bucket blocks rule side = record { rest = blocks; side = side; by_rule = rule; covers = λ b. refl; sums = refl }
+pub backed_none : (file : List ℕ) (h : Header) (top : ℕ) (table bucket : List Extent) (blocks : List StackBlock) → table ≡ table_after h.avail_size table blocks → blocks ≡ blocks_after h.avail_size table blocks → IsFreeSide file h top (free_lists table blocks bucket) → BackedTo file h top table table blocks bucket
+backed_none file h top table bucket blocks rule kept side = record { rest = blocks; side = side; by_rule = rule; rest_is = kept; covers = λ b. refl; sums = refl }
 
 pub backed_empty : (file : List ℕ) (h : Header) (top : ℕ) (table bucket : List Extent) (blocks : List StackBlock) → top ≡ 0 → IsFreeSide file h top (free_lists table blocks bucket) → BackedTo file h top table table blocks bucket
 backed_empty file h top table bucket blocks z side =
     let none : blocks ≡ [] = top_zero file (most_of h) blocks (rw (← z) side.stack) in
-    backed_none file h top table bucket blocks (rw none refl) side
+    backed_none file h top table bucket blocks (rw none refl) (rw none refl) side
 
 pub backed_full : (file : List ℕ) (h : Header) (top : ℕ) (table bucket : List Extent) (blocks : List StackBlock) → h.avail_size ≤ 2 * length table → IsFreeSide file h top (free_lists table blocks bucket) → BackedTo file h top table table blocks bucket
-backed_full file h top table bucket [] le side = backed_none file h top table bucket [] refl side
+backed_full file h top table bucket [] le side = backed_none file h top table bucket [] refl refl side
 backed_full file h top table bucket (b ∷ bs) le side =
     let f : nat_lt (2 * length table) h.avail_size ≡ false = grind (arith, nat_tests) in
-    backed_none file h top table bucket (b ∷ bs) (rw f refl) side
+    backed_none file h top table bucket (b ∷ bs) (rw f refl) (rw f refl) side
 
 pub backed_large : (file : List ℕ) (h : Header) (top : ℕ) (table bucket spare : List Extent) (blocks : List StackBlock) → spare ≡ extents_at (stack_block file top) → h.avail_size < length table + length spare + 1 → IsFreeSide file h top (free_lists table blocks bucket) → BackedTo file h top table table blocks bucket
-backed_large file h top table bucket spare [] is lt side = backed_none file h top table bucket [] refl side
+backed_large file h top table bucket spare [] is lt side = backed_none file h top table bucket [] refl refl side
 backed_large file h top table bucket spare (b ∷ bs) is lt side =
     let same : spare ≡ b.extents = is ∙ ap (λ (k : ℕ). extents_at (stack_block file k)) (sym side.stack.0) ∙ sym side.stack.1.extents in
     let len = ap (λ (x : List Extent). length x) same in
     let f : nat_le (length table + length b.extents + 1) h.avail_size ≡ false = grind (arith, nat_tests, len, lt) in
     let g : is_taken_back h.avail_size table (b ∷ bs) ≡ false = rw f (and-false (nat_lt (2 * length table) h.avail_size)) in
-    backed_none file h top table bucket (b ∷ bs) (rw g refl) side
+    backed_none file h top table bucket (b ∷ bs) (rw g refl) (rw g refl) side
 
 pub backed_some : (file : List ℕ) (h : Header) (top : ℕ) (table table' bucket spare : List Extent) (next : ℕ) (blocks : List StackBlock) → top ≢ 0 → spare ≡ extents_at (stack_block file top) → next ≡ next_at (bytes_at file top 16)
     → 2 * length table < h.avail_size → length table + length spare + 1 ≤ h.avail_size → table' ≡ table ++ spare ++ extent top (avail_size (length spare)) ∷ [] → IsFreeSide file h top (free_lists table blocks bucket) → BackedTo file h next table table' blocks bucket
@@ -191,6 +191,7 @@ backed_some file h top table table' bucket spare next (b ∷ bs) ne is follows h
       rest = bs;
       side = back_side file h top table bucket b bs side;
       by_rule = rw rule refl;
+      rest_is = rw rule refl;
       covers = back_cover table bucket b bs;
       sums = back_total table bucket b bs;
     })

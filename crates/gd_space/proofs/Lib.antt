@@ -13,3 +13,4 @@ pub mod Tables
 pub mod Trials
 pub mod Gives
 pub mod Fills
+pub mod Pushing

@@ -1,5 +1,5 @@
 -- The free side of a file after a block was pushed.
-use Rattle.std.proofs.Common.{◌≡◌, ℕ, ◌+◌, ◌-◌, ◌^◌, ◌<◌, ◌≤◌, List, [], ◌∷◌, ◌++◌, length, refl, ◌∙◌, inl, inr, arith}
+use Rattle.std.proofs.Common.{◌≡◌, ℕ, ◌+◌, ◌-◌, ◌^◌, ◌<◌, ◌≤◌, List, [], ◌∷◌, ◌++◌, length, pos, refl, ap, ◌∙◌, inl, inr, arith}
 use Rattle.std.specs.List.{AllByRecursion}
 use Rattle.std.proofs.lemmas.Bool.{cases_lt}
 use Rattle.std.proofs.lemmas.Bool.Decides.{nat_tests}
@@ -15,12 +15,13 @@ use Rattle.gd_format.specs.FreeSide.{IsBelow, FreeLists, free_extents, stack_ext
 use Rattle.gd_format.specs.Avail.{avail_size}
 use Rattle.gd_space.specs.Effect.{grown, Change}
 use Rattle.gd_space.specs.Lists.{Step}
-use Rattle.gd_space.specs.Spells.{Spells}
+use Rattle.gd_space.specs.Spells.{Spells, capacity_at}
+use Rattle.gd_space.specs.Stacks.{KeepsBlock}
 use Rattle.gd_format.proofs.Covers.{cover-append, size_sum-append, all-append, all-left, all-right}
 use Rattle.gd_space.proofs.Tooks.{below-more, cover-side, size_sum-side}
 use Rattle.gd_space.proofs.Changes.{cover-grown_low, cover-one}
 use Rattle.gd_space.proofs.Writes.{wrote-apart, wrote-length, wrote-own}
-use Rattle.gd_space.proofs.Stacks.{apart_by_cover, stack_kept, new_block}
+use Rattle.gd_space.proofs.Stacks.{apart_by_cover, stack_kept, blocks_kept, new_block}
 
 pub cover-in : (at n x : ℕ) → 0 < cover (extent at n ∷ []) x → (at ≤ x) × (x < at + n)
 cover-in at n x h = (grind (arith, nat_tests), grind (arith, nat_tests))
@@ -54,7 +55,7 @@ pub record Pushes (h : Header) (next' : ℕ) (s : FreeLists) (table' bucket' spa
   pub given_below : AllByRecursion (IsBelow h.next_block) given
   pub given_once : (b : ℕ) → cover (free_extents s) b + cover given b ≤ 1
 
-module _ (file bs : List ℕ) (h : Header) (next' top : ℕ) (s : FreeLists) (table' bucket' spare : List Extent) (e : Extent) (given taken : List Extent) (old : IsFreeSide file h top s) (p : Pushes h next' s table' bucket' spare e given taken) (spells : Spells spare top bs) where
+module _ (file bs : List ℕ) (h : Header) (capacity next' top : ℕ) (s : FreeLists) (table' bucket' spare : List Extent) (e : Extent) (given taken : List Extent) (old : IsFreeSide file h top s) (p : Pushes h next' s table' bucket' spare e given taken) (spells : Spells capacity spare top bs) where
   -- what there was and what is new has each byte once
   all_once : (x : ℕ) → cover (free_extents s) x + cover given x + cover (grown h.next_block next') x ≤ 1
   all_once x =
@@ -97,9 +98,15 @@ module _ (file bs : List ℕ) (h : Header) (next' top : ℕ) (s : FreeLists) (ta
       let whole : bytes_at (written file e.at bs) e.at (length bs) ≡ bs = wrote-own file bs e.at (length bs) (omega arith) ∙ take_all (length bs) bs (omega arith) in
       let head = wrote-own file bs e.at 16 (omega (arith, size)) in (
         refl,
-        new_block (written file e.at bs) bs (most_of h) e.at top spare p.start p.small p.few spells whole head (omega (arith, l)),
+        new_block (written file e.at bs) bs capacity (most_of h) e.at top spare p.start p.small p.few spells whole head (omega (arith, l)),
         stack_kept file (written file e.at bs) (most_of h) e.at (length bs) (omega (arith, size)) longer apart_same top s.blocks few_bytes old.stack,
       )
+
+  pub pushed_capacity : capacity_at (bytes_at (written file e.at bs) e.at 16) ≡ pos capacity
+  pushed_capacity = ap capacity_at (wrote-own file bs e.at 16 (omega (arith, size))) ∙ spells.capacity_is
+
+  pub pushed_below : AllByRecursion (KeepsBlock file (written file e.at bs)) s.blocks
+  pushed_below = blocks_kept file (written file e.at bs) (most_of h) e.at (length bs) (omega (arith, size)) apart_same top s.blocks few_bytes old.stack
 
   -- the extents afterwards, by where they stand
   new_cover : (x : ℕ) → cover (free_extents (record { table = table'; blocks = record { at = e.at; extents = spare; next = top } ∷ s.blocks; bucket = bucket' })) x ≡ cover table' x + (cover (extent e.at (avail_size (length spare)) ∷ []) x + cover spare x + cover (stack_extents s.blocks) x) + cover bucket' x

@@ -13,7 +13,9 @@ use Rattle.gd_space.specs.Ranges.{AreApart}
 use Rattle.gd_format.specs.Sound.{extent, is_stack_block, stack_block, stack_size}
 use Rattle.gd_format.specs.FreeSide.{StackBlock, IsBlockOf, IsStack, stack_extents}
 use Rattle.gd_format.specs.Avail.{Avail, avail_size, raw_avail_at, count_at, next_at, extents_at, is_avail, avail_at}
-use Rattle.gd_space.specs.Spells.{Spells}
+use Rattle.std.specs.List.{AllByRecursion}
+use Rattle.gd_space.specs.Spells.{Spells, capacity_at}
+use Rattle.gd_space.specs.Stacks.{KeepsBlock}
 use Rattle.gd_format.proofs.Covers.{cover-append}
 use Rattle.std.specs.Int.{w32, w64, cast_signed, cast_unsigned}
 
@@ -27,6 +29,10 @@ bytes_at-take m a n xs h =
 pub count-take : (m : ℕ) (xs : List ℕ) → 8 ≤ m → count_at (take m xs) ≡ count_at xs
 unfolding raw_avail_at i32_at u32_at
 count-take m xs h = ap (λ (bs : List ℕ). cast_signed w32 (number_of bs)) (bytes_at-take m 4 4 xs h)
+
+pub capacity-take : (m : ℕ) (xs : List ℕ) → 4 ≤ m → capacity_at (take m xs) ≡ capacity_at xs
+unfolding raw_avail_at i32_at u32_at
+capacity-take m xs h = ap (λ (bs : List ℕ). cast_signed w32 (number_of bs)) (bytes_at-take m 0 4 xs h)
 
 pub next-take : (m : ℕ) (xs : List ℕ) → 16 ≤ m → next_at (take m xs) ≡ next_at xs
 unfolding next_at raw_avail_at i64_at u64_at
@@ -151,10 +157,25 @@ stack_kept file file' most at n some longer same top (b ∷ bs) once is =
     let apart = apart_by_cover b.at (avail_size (length b.extents)) at n (omega arith) some one in
     (is.0, block_same file file' most longer b (same b.at (avail_size (length b.extents)) inside apart) is.1, stack_kept file file' most at n some longer same b.next bs rest is.2)
 
+-- the bytes of its blocks are the same then
+pub blocks_kept : (file file' : List ℕ) (most at n : ℕ) → 0 < n → ((a m : ℕ) → a + m ≤ length file → AreApart a m at n → bytes_at file' a m ≡ bytes_at file a m)
+    → (top : ℕ) (blocks : List StackBlock) → ((x : ℕ) → cover (stack_extents blocks) x + cover (extent at n ∷ []) x ≤ 1) → IsStack file most top blocks → AllByRecursion (KeepsBlock file file') blocks
+blocks_kept file file' most at n some same top [] once is = tt
+blocks_kept file file' most at n some same top (b ∷ bs) once is =
+    let inside = (block_in file most b is.1).0 in
+    let one : (x : ℕ) → cover (extent b.at (avail_size (length b.extents)) ∷ []) x + cover (extent at n ∷ []) x ≤ 1 = λ x. (let o = once x in let c = cover-append b.extents (stack_extents bs) x in omega (arith, o, c)) in
+    let rest : (x : ℕ) → cover (stack_extents bs) x + cover (extent at n ∷ []) x ≤ 1 = λ x. (let o = once x in let c = cover-append b.extents (stack_extents bs) x in omega (arith, o, c)) in
+    let apart = apart_by_cover b.at (avail_size (length b.extents)) at n (omega arith) some one in
+    (same b.at (avail_size (length b.extents)) inside apart, blocks_kept file file' most at n some same b.next bs rest is.2)
+
+pub blocks_same : (file : List ℕ) (blocks : List StackBlock) → AllByRecursion (KeepsBlock file file) blocks
+blocks_same file [] = tt
+blocks_same file (b ∷ bs) = (refl, blocks_same file bs)
+
 -- a block that was written
-pub new_block : (file' bs : List ℕ) (most at next : ℕ) (extents : List Extent) → 0 < at → at < 2 ^ 63 → length extents ≤ most → Spells extents next bs → bytes_at file' at (length bs) ≡ bs → bytes_at file' at 16 ≡ take 16 bs → at + length bs ≤ length file' → IsBlockOf file' most (record { at = at; extents = extents; next = next })
+pub new_block : (file' bs : List ℕ) (capacity most at next : ℕ) (extents : List Extent) → 0 < at → at < 2 ^ 63 → length extents ≤ most → Spells capacity extents next bs → bytes_at file' at (length bs) ≡ bs → bytes_at file' at 16 ≡ take 16 bs → at + length bs ≤ length file' → IsBlockOf file' most (record { at = at; extents = extents; next = next })
 unfolding stack_block stack_size
-new_block file' bs most at next extents some small few spells own head ends =
+new_block file' bs capacity most at next extents some small few spells own head ends =
     let count : natural (count_at (bytes_at file' at 16)) ≡ length extents = ap (λ (x : List ℕ). natural (count_at x)) head ∙ ap natural spells.count in
     let size : avail_size (natural (count_at (bytes_at file' at 16))) ≡ length bs = ap avail_size count ∙ sym spells.size in
     let body : stack_block file' at ≡ bs = ap (bytes_at file' at) size ∙ own in

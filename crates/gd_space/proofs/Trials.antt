@@ -1,5 +1,5 @@
 -- The headers of a trial.
-use Rattle.std.proofs.Common.{◌≡◌, ℕ, ◌+◌, ◌-◌, ◌^◌, ◌<◌, ◌≤◌, true, pos, List, length, refl, sym, ap, subst, ◌∙◌, arith}
+use Rattle.std.proofs.Common.{◌≡◌, ℕ, ◌^◌, ◌≤◌, length, sym, ap, subst, ◌∙◌}
 use Rattle.gd_format.specs.declared.Header.{Header}
 use Rattle.gd_format.specs.HeaderFault.{table_room}
 use Rattle.gd_format.specs.Headers.{IsHeader}

@@ -5,7 +5,7 @@ use Rattle.gd_format.specs.declared.Header.{Header}
 use Rattle.gd_format.specs.Covers.{cover, size_sum}
 use Rattle.gd_format.specs.FreeSide.{FreeLists, StackBlock, IsFreeSide, free_extents}
 use Rattle.gd_space.specs.Sizes.{largest}
-use Rattle.gd_space.specs.Effect.{Change, Given, table_after, growth}
+use Rattle.gd_space.specs.Effect.{Change, Given, table_after, blocks_after, growth}
 use Rattle.gd_vault.specs.Content.{File, Content}
 use Rattle.gd_vault.specs.Views.{View, content_of}
 
@@ -36,6 +36,7 @@ pub record BackedTo (file : List ℕ) (h : Header) (top' : ℕ) (table table' : 
   pub rest : List StackBlock
   pub side : IsFreeSide file h top' (free_lists table' rest bucket)
   pub by_rule : table' ≡ table_after h.avail_size table blocks
+  pub rest_is : rest ≡ blocks_after h.avail_size table blocks
   pub covers : (b : ℕ) → cover (free_extents (free_lists table' rest bucket)) b ≡ cover (free_extents (free_lists table blocks bucket)) b
   pub sums : size_sum (free_extents (free_lists table' rest bucket)) ≡ size_sum (free_extents (free_lists table blocks bucket))
 

@@ -48,6 +48,11 @@ abbrev pub table_after : (capacity : ℕ) (table : List Extent) (blocks : List S
 table_after capacity table [] = table
 table_after capacity table (b ∷ bs) = if is_taken_back capacity table (b ∷ bs) then table ++ b.extents ++ block_extent b ∷ [] else table
 
+-- the stack after that
+abbrev pub blocks_after : (capacity : ℕ) (table : List Extent) (blocks : List StackBlock) → List StackBlock
+blocks_after capacity table [] = []
+blocks_after capacity table (b ∷ bs) = if is_taken_back capacity table (b ∷ bs) then bs else b ∷ bs
+
 -- the fewest whole blocks that hold n bytes
 abbrev pub whole_blocks : ℕ → ℕ → ℕ
 whole_blocks n block = (n + (block - 1)) / block * block
@@ -78,6 +83,39 @@ give_growth e h table bucket = if nat_lt 4 e.size && nat_le 6 (length bucket) th
 -- where the capacity of the table is changed
 abbrev pub recut_growth : (capacity : ℕ) → Header → (table bucket : List Extent) → ℕ
 recut_growth capacity h table bucket = if nat_lt capacity (length table) then push_growth (length table - capacity) h table bucket else 0
+
+-- ---- when a block is pushed, and how many bytes that writes
+
+-- is a block pushed for n bytes that are taken? Then no extent at hand has them, something is over of new room, and the bucket and
+-- the table are full
+abbrev pub take_pushes : (n : ℕ) → Header → (table bucket : List Extent) → Bool
+take_pushes n h table bucket = nat_lt (max (largest table) (largest bucket)) n && not (whole_blocks n h.block == n) && nat_le 6 (length bucket) && nat_le h.avail_size (length table)
+
+-- where an extent is given: then it goes to the table, which is full
+abbrev pub give_pushes : Extent → Header → (table bucket : List Extent) → Bool
+give_pushes e h table bucket = nat_lt 4 e.size && nat_le 6 (length bucket) && nat_le h.avail_size (length table)
+
+-- where the capacity of the table is changed
+abbrev pub recut_pushes : (capacity : ℕ) → (table : List Extent) → Bool
+recut_pushes capacity table = nat_lt capacity (length table)
+
+-- a block with so many extents, to which one more comes from new room, has at most this size
+abbrev pub push_size : ℕ → ℕ
+push_size count = avail_size (count + 1)
+
+abbrev pub give_writes : Extent → Header → (table bucket : List Extent) → ℕ
+give_writes e h table bucket = if give_pushes e h table bucket then push_size (h.avail_size / 2) else 0
+
+abbrev pub recut_writes : (capacity : ℕ) → (table : List Extent) → ℕ
+recut_writes capacity table = if recut_pushes capacity table then push_size (length table - capacity) else 0
+
+-- how many bytes are kept for the block that is pushed where the capacity is changed
+abbrev pub recut_room : (capacity : ℕ) → Header → (table : List Extent) → ℕ
+recut_room capacity h table = max (8 * max h.avail_size capacity + 32) (push_size (length table - capacity))
+
+-- how many of them are lost at most
+abbrev pub recut_loses : (capacity : ℕ) → Header → (table : List Extent) → ℕ
+recut_loses capacity h table = if recut_pushes capacity table then recut_room capacity h table - avail_size (length table - capacity) else 0
 
 -- what one call does to a file, its header, the top of its stack and its free side
 pub record Change (file file' : List ℕ) (h h' : Header) (top top' : ℕ) (s s' : FreeLists) (given taken : List Extent) (lost : ℕ) : Type 0 where

@@ -4,6 +4,7 @@ pub mod Ranges
 pub mod Effect
 pub mod Lists
 pub mod Calls
+pub mod Stacks
 pub mod Spells
 pub mod SpaceLaws
 pub mod Trial

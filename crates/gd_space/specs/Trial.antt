@@ -1,5 +1,5 @@
 -- What a trial of the calls keeps, so that each may follow each.
-use Rattle.std.specs.Prelude.{◌≡◌, ℕ, ◌≤◌, length}
+use Rattle.std.specs.Prelude.{◌≡◌, ◌≤◌, length}
 use Rattle.gd_format.specs.declared.Header.{Header}
 use Rattle.gd_format.specs.Headers.{IsHeader}
 use Rattle.gd_space.specs.Held.{HeldSpace}

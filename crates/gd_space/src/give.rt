@@ -1,16 +1,17 @@
 //! Gives room back, and changes the capacity of the table.
 
-ghost use Rattle.std.specs.Prelude.{◌≡◌, ◌≢◌, ◌⊎◌, ◌+◌, ◌-◌, ◌*◌, ◌/◌, ◌<◌, ◌≤◌, ◌^◌, ℕ, length, max, [], ◌∷◌, ◌++◌, IfOk, IfErr, OnOk, OnErr};
+ghost use Rattle.std.specs.Prelude.{◌≡◌, ◌≢◌, ◌⊎◌, ◌+◌, ◌-◌, ◌*◌, ◌/◌, ◌<◌, ◌≤◌, ◌^◌, ℕ, length, max, nat_le, if◌then◌else◌, [], ◌∷◌, ◌++◌, IfOk, IfErr, OnOk, OnErr};
 ghost use Rattle.std.specs.List.{AllByRecursion};
 ghost use Rattle.gd_base.specs.Causes.{Rose};
 ghost use Rattle.gd_format.specs.Avail.{avail_size};
 ghost use Rattle.gd_format.specs.Sound.{most_of};
 ghost use Rattle.gd_layout.specs.Fits.{FitsExtent};
-ghost use Rattle.gd_space.specs.Effect.{WritesAtMost, push_growth, room_growth, give_growth, recut_growth};
+ghost use Rattle.gd_space.specs.Effect.{WritesAtMost, push_growth, room_growth, give_growth, recut_growth, push_size, give_pushes, recut_pushes, give_writes, recut_writes, recut_loses};
 ghost use Rattle.gd_space.specs.Calls.{HasFreeSide, Done, Gave};
+ghost use Rattle.gd_space.specs.Stacks.{Pushed, Stacks, all_kept};
 ghost use Rattle.gd_space.specs.declared.stack.SpaceError.TheVariants.{VaultFault, FileFull};
 ghost use Rattle.gd_vault.specs.Views.{HasFile};
-ghost use Rattle.gd_vault.specs.Frame.{Within, OneFile, NoName};
+ghost use Rattle.gd_vault.specs.Streams.{OnlyWrites};
 
 use crate::filling::fill_block;
 use crate::stack::{SpaceError, write_block};
@@ -20,7 +21,7 @@ use gd_vault::{FileId, Vault};
 
 /// Pushes the last `count` extents of a table as a block of the stack, which gets `wide` bytes where one range has them,
 /// and `size` in its size field.
-#[tactic(auto, using(gd_vault::proofs::Within::within))]
+#[tactic(auto, using(gd_vault::proofs::Writes::writes))]
 pub fn push_last<V: Vault>(
     vault: &mut V,
     f: FileId,
@@ -47,7 +48,7 @@ pub fn push_last<V: Vault>(
     requires next { header.old.next_block ≤ 2 ^ 46 }
     requires buffer { header.old.block ≤ length buf.old }
     requires fields { AllByRecursion FitsExtent table.old.extents }
-    ensures done { OnOk result (Done (V.view_of vault.old) (V.view_of vault.new) f.0 header.old header.new table.old.next_block table.new.next_block table.old.extents bucket.old.free table.new.extents bucket.new.free [] [] (wide - avail_size count)) }
+    ensures pushed { OnOk result (Pushed (V.view_of vault.old) (V.view_of vault.new) f.0 header.old header.new size table.old.next_block table.new.next_block table.old.extents bucket.old.free table.new.extents bucket.new.free [] [] (wide - avail_size count)) }
     ensures header { OnOk result (header.new ≡ record header.old { next_block = header.new.next_block }) }
     ensures growth { OnOk result (header.new.next_block ≡ header.old.next_block + push_growth count header.old table.old.extents bucket.old.free) }
     ensures below { OnOk result (header.new.next_block ≤ 2 ^ 46) }
@@ -65,8 +66,8 @@ pub fn push_last<V: Vault>(
     ensures spare_room { spare.new.room ≡ spare.old.room }
     ensures bits { bucket.new.bits ≡ bucket.old.bits }
     ensures slots { bucket.new.slots ≡ bucket.old.slots }
-    ensures frame { Within (OneFile f.0) NoName (V.view_of vault.old) (V.view_of vault.new) }
-    ensures amount { WritesAtMost header.old.block (V.view_of vault.old) (V.view_of vault.new) }
+    ensures frame { OnlyWrites f.0 (V.view_of vault.old) (V.view_of vault.new) }
+    ensures amount { WritesAtMost (push_size count) (V.view_of vault.old) (V.view_of vault.new) }
 {
     spare.clear();
     let Some(filled) = fill_block(table, spare, bucket, header, count, wide) else {
@@ -80,7 +81,7 @@ pub fn push_last<V: Vault>(
 }
 
 /// Pushes half of a table that is full.
-#[tactic(auto, using(gd_vault::proofs::Within::within))]
+#[tactic(auto, using(gd_vault::proofs::Writes::writes))]
 pub fn make_room<V: Vault>(
     vault: &mut V,
     f: FileId,
@@ -104,6 +105,7 @@ pub fn make_room<V: Vault>(
     requires buffer { header.old.block ≤ length buf.old }
     requires fields { AllByRecursion FitsExtent table.old.extents }
     ensures done { OnOk result (Done (V.view_of vault.old) (V.view_of vault.new) f.0 header.old header.new table.old.next_block table.new.next_block table.old.extents bucket.old.free table.new.extents bucket.new.free [] [] 32) }
+    ensures stack { OnOk result (Stacks (V.view_of vault.old) (V.view_of vault.new) f.0 header.old header.old.avail_size table.old.next_block table.new.next_block table.old.extents bucket.old.free (λ blocks. nat_le header.old.avail_size (length table.old.extents)) all_kept) }
     ensures header { OnOk result (header.new ≡ record header.old { next_block = header.new.next_block }) }
     ensures had_room { length table.old.extents < header.old.avail_size → (table.new ≡ table.old) × (bucket.new ≡ bucket.old) }
     ensures half { OnOk result (header.old.avail_size ≤ length table.old.extents → length table.new.extents + header.old.avail_size / 2 ≤ length table.old.extents) }
@@ -123,8 +125,8 @@ pub fn make_room<V: Vault>(
     ensures spare_room { spare.new.room ≡ spare.old.room }
     ensures bits { bucket.new.bits ≡ bucket.old.bits }
     ensures slots { bucket.new.slots ≡ bucket.old.slots }
-    ensures frame { Within (OneFile f.0) NoName (V.view_of vault.old) (V.view_of vault.new) }
-    ensures amount { WritesAtMost header.old.block (V.view_of vault.old) (V.view_of vault.new) }
+    ensures frame { OnlyWrites f.0 (V.view_of vault.old) (V.view_of vault.new) }
+    ensures amount { WritesAtMost (if nat_le header.old.avail_size (length table.old.extents) then push_size (header.old.avail_size / 2) else 0) (V.view_of vault.old) (V.view_of vault.new) }
 {
     let capacity = header.avail_size;
     if table.extents().len() < capacity as usize {
@@ -140,7 +142,7 @@ pub fn make_room<V: Vault>(
 
 /// Forgets an extent of at most 4 bytes, and puts a larger one into the bucket where that has fewer than six, else into
 /// the table, of which half is pushed first where it is full.
-#[tactic(auto, using(gd_vault::proofs::Within::within))]
+#[tactic(auto, using(gd_vault::proofs::Writes::writes))]
 pub fn give<V: Vault>(
     vault: &mut V,
     f: FileId,
@@ -167,6 +169,7 @@ pub fn give<V: Vault>(
     requires buffer { header.old.block ≤ length buf.old }
     requires fields { AllByRecursion FitsExtent table.old.extents }
     ensures gave { OnOk result (Gave (V.view_of vault.old) (V.view_of vault.new) f.0 header.old header.new table.old.next_block table.new.next_block table.old.extents bucket.old.free table.new.extents bucket.new.free extent) }
+    ensures stack { OnOk result (Stacks (V.view_of vault.old) (V.view_of vault.new) f.0 header.old header.old.avail_size table.old.next_block table.new.next_block table.old.extents bucket.old.free (λ blocks. give_pushes extent header.old table.old.extents bucket.old.free) all_kept) }
     ensures header { OnOk result (header.new ≡ record header.old { next_block = header.new.next_block }) }
     ensures small { extent.size ≤ 4 → (table.new ≡ table.old) × (bucket.new ≡ bucket.old) × (header.new ≡ header.old) }
     ensures in_bucket { 4 < extent.size → length bucket.old.free < 6 → (table.new ≡ table.old) × (bucket.new ≡ record bucket.old { free = bucket.old.free ++ extent ∷ [] }) }
@@ -187,8 +190,8 @@ pub fn give<V: Vault>(
     ensures spare_room { spare.new.room ≡ spare.old.room }
     ensures bits { bucket.new.bits ≡ bucket.old.bits }
     ensures slots { bucket.new.slots ≡ bucket.old.slots }
-    ensures frame { Within (OneFile f.0) NoName (V.view_of vault.old) (V.view_of vault.new) }
-    ensures amount { WritesAtMost header.old.block (V.view_of vault.old) (V.view_of vault.new) }
+    ensures frame { OnlyWrites f.0 (V.view_of vault.old) (V.view_of vault.new) }
+    ensures amount { WritesAtMost (give_writes extent header.old table.old.extents bucket.old.free) (V.view_of vault.old) (V.view_of vault.new) }
 {
     if extent.size <= 4 {
         return Ok(());
@@ -208,15 +211,14 @@ fn wide_for(one: u32, other: u32, count: u32) -> u32
     requires one { one ≤ 65536 }
     requires other { other ≤ 65536 }
     requires count { count < 65536 }
-    ensures least { avail_size (count + 1) ≤ result }
-    ensures most { result ≤ max (8 * max one other + 32) (avail_size (count + 1)) }
+    ensures { result ≡ max (8 * max one other + 32) (push_size count) }
 {
     let widest = 8 * one.max(other) + 32;
     widest.max(32 + 16 * count)
 }
 
 /// Changes the capacity of the table, and pushes what does not fit.
-#[tactic(auto, using(gd_vault::proofs::Within::within))]
+#[tactic(auto, using(gd_vault::proofs::Writes::writes))]
 pub fn recut<V: Vault>(
     vault: &mut V,
     f: FileId,
@@ -241,7 +243,8 @@ pub fn recut<V: Vault>(
     requires next { header.old.next_block ≤ 2 ^ 46 }
     requires buffer { header.old.block ≤ length buf.old }
     requires fields { AllByRecursion FitsExtent table.old.extents }
-    ensures done { OnOk result (Done (V.view_of vault.old) (V.view_of vault.new) f.0 header.old header.new table.old.next_block table.new.next_block table.old.extents bucket.old.free table.new.extents bucket.new.free [] [] header.old.block) }
+    ensures done { OnOk result (Done (V.view_of vault.old) (V.view_of vault.new) f.0 header.old header.new table.old.next_block table.new.next_block table.old.extents bucket.old.free table.new.extents bucket.new.free [] [] (recut_loses capacity header.old table.old.extents)) }
+    ensures stack { OnOk result (Stacks (V.view_of vault.old) (V.view_of vault.new) f.0 header.old capacity table.old.next_block table.new.next_block table.old.extents bucket.old.free (λ blocks. recut_pushes capacity table.old.extents) all_kept) }
     ensures header { OnOk result (header.new ≡ record header.old { next_block = header.new.next_block; avail_size = capacity }) }
     ensures fitted { length table.old.extents ≤ capacity → (table.new ≡ table.old) × (bucket.new ≡ bucket.old) }
     ensures growth { OnOk result (header.new.next_block ≡ header.old.next_block + recut_growth capacity header.old table.old.extents bucket.old.free) }
@@ -260,8 +263,8 @@ pub fn recut<V: Vault>(
     ensures spare_room { spare.new.room ≡ spare.old.room }
     ensures bits { bucket.new.bits ≡ bucket.old.bits }
     ensures slots { bucket.new.slots ≡ bucket.old.slots }
-    ensures frame { Within (OneFile f.0) NoName (V.view_of vault.old) (V.view_of vault.new) }
-    ensures amount { WritesAtMost header.old.block (V.view_of vault.old) (V.view_of vault.new) }
+    ensures frame { OnlyWrites f.0 (V.view_of vault.old) (V.view_of vault.new) }
+    ensures amount { WritesAtMost (recut_writes capacity table.old.extents) (V.view_of vault.old) (V.view_of vault.new) }
 {
     let len = table.extents().len() as u32;
     if len <= capacity {

@@ -8,12 +8,13 @@ ghost use Rattle.gd_layout.specs.Fits.{FitsExtent};
 ghost use Rattle.gd_format.specs.Avail.{avail_size};
 ghost use Rattle.gd_format.specs.FreeSide.{IsBelow};
 ghost use Rattle.gd_base.specs.Causes.{Rose};
-ghost use Rattle.gd_space.specs.Effect.{whole_blocks, grown, WritesAtMost};
+ghost use Rattle.gd_space.specs.Effect.{whole_blocks, grown, half_size, WritesAtMost};
 ghost use Rattle.gd_space.specs.Lists.{Step};
-ghost use Rattle.gd_space.specs.Calls.{HasFreeSide, Done};
+ghost use Rattle.gd_space.specs.Calls.{HasFreeSide};
+ghost use Rattle.gd_space.specs.Stacks.{Pushed};
 ghost use Rattle.gd_space.specs.declared.stack.SpaceError.TheVariants.{VaultFault};
 ghost use Rattle.gd_vault.specs.Views.{HasFile};
-ghost use Rattle.gd_vault.specs.Frame.{Within, OneFile, NoName};
+ghost use Rattle.gd_vault.specs.Streams.{OnlyWrites};
 
 use crate::grow::whole_for;
 use crate::half::{move_last, place_block};
@@ -114,7 +115,7 @@ pub fn take_pushing<V: Vault>(
     requires over { whole_blocks n header.old.block ≢ n }
     requires buffer { header.old.block ≤ length buf.old }
     requires fields { AllByRecursion FitsExtent table.old.extents }
-    ensures done { IfOk result (λ at. Done (V.view_of vault.old) (V.view_of vault.new) f.0 header.old header.new table.old.next_block table.new.next_block table.old.extents bucket.old.free table.new.extents bucket.new.free [] (extent at n ∷ []) 32) }
+    ensures pushed { IfOk result (λ at. Pushed (V.view_of vault.old) (V.view_of vault.new) f.0 header.old header.new header.old.avail_size table.old.next_block table.new.next_block table.old.extents bucket.old.free table.new.extents bucket.new.free [] (extent at n ∷ []) 32) }
     ensures at { IfOk result (λ at. at ≡ header.old.next_block) }
     ensures growth { OnOk result (header.new.next_block ≡ header.old.next_block + (if nat_lt (max (largest table.old.extents) (largest bucket.old.free)) (avail_size (header.old.avail_size / 2)) then whole_blocks n header.old.block + header.old.block else whole_blocks n header.old.block)) }
     ensures header { OnOk result (header.new ≡ record header.old { next_block = header.new.next_block }) }
@@ -125,8 +126,8 @@ pub fn take_pushing<V: Vault>(
     ensures same_header { IfErr result (λ e. header.new ≡ header.old) }
     ensures bits { bucket.new.bits ≡ bucket.old.bits }
     ensures slots { bucket.new.slots ≡ bucket.old.slots }
-    ensures frame { Within (OneFile f.0) NoName (V.view_of vault.old) (V.view_of vault.new) }
-    ensures amount { WritesAtMost header.old.block (V.view_of vault.old) (V.view_of vault.new) }
+    ensures frame { OnlyWrites f.0 (V.view_of vault.old) (V.view_of vault.new) }
+    ensures amount { WritesAtMost (half_size header.old.avail_size) (V.view_of vault.old) (V.view_of vault.new) }
     ensures error { IfErr result (λ e. e ≡ VaultFault) }
     ensures fault { OnErr result (Rose (V.view_of vault.old).faults (V.view_of vault.new).faults) }
 {

@@ -8,12 +8,13 @@ ghost use Rattle.gd_format.specs.HeaderFault.{table_room};
 ghost use Rattle.gd_format.specs.Headers.{IsHeader};
 ghost use Rattle.gd_format.specs.Avail.{avail_at, is_avail};
 ghost use Rattle.gd_format.specs.Sound.{extent, most_of, place_of, table_of};
-ghost use Rattle.gd_space.specs.Effect.{LiesInOne, WritesAtMost, TellsNone, give_growth, recut_growth};
+ghost use Rattle.gd_space.specs.Effect.{LiesInOne, WritesAtMost, TellsNone, half_size, table_after, blocks_after, take_pushes, give_growth, give_pushes, give_writes, recut_growth, recut_pushes, recut_writes, recut_loses};
 ghost use Rattle.gd_space.specs.Calls.{HasFreeSide, Done, Gave, OnTable, growth_of};
+ghost use Rattle.gd_space.specs.Stacks.{Stacks, all_kept};
 ghost use Rattle.gd_space.specs.declared.stack.SpaceError.TheVariants.{VaultFault, FileFull, BadAvail, OutOfMemory};
 ghost use Rattle.gd_vault.specs.Content.{File};
 ghost use Rattle.gd_vault.specs.Views.{HasFile, IsAt, OnlyAsks};
-ghost use Rattle.gd_vault.specs.Frame.{Within, OneFile, NoName};
+ghost use Rattle.gd_vault.specs.Streams.{OnlyWrites};
 
 use crate::stack::{SpaceError, count_of, refill};
 use crate::{give, take};
@@ -180,6 +181,7 @@ impl Space {
         requires some { 0 < n }
         requires side { HasFreeSide (V.view_of vault.old) f.0 header.old self.old.table.next_block self.old.table.extents bucket.old.free }
         ensures done { IfOk result (λ at. Done (V.view_of vault.old) (V.view_of vault.new) f.0 header.old header.new self.old.table.next_block self.new.table.next_block self.old.table.extents bucket.old.free self.new.table.extents bucket.new.free [] (extent at n ∷ []) 32) }
+        ensures stack { OnOk result (Stacks (V.view_of vault.old) (V.view_of vault.new) f.0 header.old header.old.avail_size self.old.table.next_block self.new.table.next_block self.old.table.extents bucket.old.free (λ blocks. take_pushes n header.old (table_after header.old.avail_size self.old.table.extents blocks) bucket.old.free) (blocks_after header.old.avail_size self.old.table.extents)) }
         ensures place { IfOk result (λ at. OnTable (V.view_of vault.old) f.0 header.old self.old.table.next_block self.old.table.extents bucket.old.free (λ table. LiesInOne (extent at n) (table ++ bucket.old.free) ⊎ (header.old.next_block ≤ at))) }
         ensures growth { OnOk result (OnTable (V.view_of vault.old) f.0 header.old self.old.table.next_block self.old.table.extents bucket.old.free (λ table. header.new.next_block ≡ header.old.next_block + growth_of n header.old table bucket.old.free)) }
         ensures bound { OnOk result (header.new.next_block < header.old.next_block + (n + 2 * header.old.block)) }
@@ -199,8 +201,9 @@ impl Space {
         ensures slots { bucket.new.slots ≡ bucket.old.slots }
         ensures block { self.new.block ≡ self.old.block }
         ensures room { self.new.table.room ≡ self.old.table.room }
-        ensures frame { Within (OneFile f.0) NoName (V.view_of vault.old) (V.view_of vault.new) }
-        ensures amount { WritesAtMost header.old.block (V.view_of vault.old) (V.view_of vault.new) }
+        ensures frame { OnlyWrites f.0 (V.view_of vault.old) (V.view_of vault.new) }
+        ensures amount { WritesAtMost (half_size header.old.avail_size) (V.view_of vault.old) (V.view_of vault.new) }
+        ensures half_block { WritesAtMost (header.old.block / 2 + 16) (V.view_of vault.old) (V.view_of vault.new) }
     {
         take::take(
             vault,
@@ -234,6 +237,7 @@ impl Space {
         requires at { extent.at < 2 ^ 63 }
         requires side { HasFreeSide (V.view_of vault.old) f.0 header.old self.old.table.next_block self.old.table.extents bucket.old.free }
         ensures gave { OnOk result (Gave (V.view_of vault.old) (V.view_of vault.new) f.0 header.old header.new self.old.table.next_block self.new.table.next_block self.old.table.extents bucket.old.free self.new.table.extents bucket.new.free extent) }
+        ensures stack { OnOk result (Stacks (V.view_of vault.old) (V.view_of vault.new) f.0 header.old header.old.avail_size self.old.table.next_block self.new.table.next_block self.old.table.extents bucket.old.free (λ blocks. give_pushes extent header.old self.old.table.extents bucket.old.free) all_kept) }
         ensures small { extent.size ≤ 4 → (self.new.table ≡ self.old.table) × (bucket.new ≡ bucket.old) × (header.new ≡ header.old) }
         ensures in_bucket { 4 < extent.size → length bucket.old.free < 6 → (self.new.table ≡ self.old.table) × (bucket.new ≡ record bucket.old { free = bucket.old.free ++ extent ∷ [] }) }
         ensures in_table { OnOk result (4 < extent.size → 6 ≤ length bucket.old.free → length self.old.table.extents < header.old.avail_size → (self.new.table ≡ record self.old.table { extents = self.old.table.extents ++ extent ∷ [] }) × (bucket.new ≡ bucket.old)) }
@@ -253,8 +257,9 @@ impl Space {
         ensures slots { bucket.new.slots ≡ bucket.old.slots }
         ensures block { self.new.block ≡ self.old.block }
         ensures room { self.new.table.room ≡ self.old.table.room }
-        ensures frame { Within (OneFile f.0) NoName (V.view_of vault.old) (V.view_of vault.new) }
-        ensures amount { WritesAtMost header.old.block (V.view_of vault.old) (V.view_of vault.new) }
+        ensures frame { OnlyWrites f.0 (V.view_of vault.old) (V.view_of vault.new) }
+        ensures amount { WritesAtMost (give_writes extent header.old self.old.table.extents bucket.old.free) (V.view_of vault.old) (V.view_of vault.new) }
+        ensures half_block { WritesAtMost (header.old.block / 2 + 16) (V.view_of vault.old) (V.view_of vault.new) }
     {
         give::give(
             vault,
@@ -286,7 +291,8 @@ impl Space {
         requires least { 2 ≤ capacity }
         requires most { capacity ≤ table_room header.old.magic header.old.block }
         requires side { HasFreeSide (V.view_of vault.old) f.0 header.old self.old.table.next_block self.old.table.extents bucket.old.free }
-        ensures done { OnOk result (Done (V.view_of vault.old) (V.view_of vault.new) f.0 header.old header.new self.old.table.next_block self.new.table.next_block self.old.table.extents bucket.old.free self.new.table.extents bucket.new.free [] [] header.old.block) }
+        ensures done { OnOk result (Done (V.view_of vault.old) (V.view_of vault.new) f.0 header.old header.new self.old.table.next_block self.new.table.next_block self.old.table.extents bucket.old.free self.new.table.extents bucket.new.free [] [] (recut_loses capacity header.old self.old.table.extents)) }
+        ensures stack { OnOk result (Stacks (V.view_of vault.old) (V.view_of vault.new) f.0 header.old capacity self.old.table.next_block self.new.table.next_block self.old.table.extents bucket.old.free (λ blocks. recut_pushes capacity self.old.table.extents) all_kept) }
         ensures fitted { length self.old.table.extents ≤ capacity → (self.new.table ≡ self.old.table) × (bucket.new ≡ bucket.old) }
         ensures growth { OnOk result (header.new.next_block ≡ header.old.next_block + recut_growth capacity header.old self.old.table.extents bucket.old.free) }
         ensures below { OnOk result (header.new.next_block ≤ 2 ^ 46) }
@@ -304,8 +310,9 @@ impl Space {
         ensures slots { bucket.new.slots ≡ bucket.old.slots }
         ensures block { self.new.block ≡ self.old.block }
         ensures room { self.new.table.room ≡ self.old.table.room }
-        ensures frame { Within (OneFile f.0) NoName (V.view_of vault.old) (V.view_of vault.new) }
-        ensures amount { WritesAtMost header.old.block (V.view_of vault.old) (V.view_of vault.new) }
+        ensures frame { OnlyWrites f.0 (V.view_of vault.old) (V.view_of vault.new) }
+        ensures amount { WritesAtMost (recut_writes capacity self.old.table.extents) (V.view_of vault.old) (V.view_of vault.new) }
+        ensures block_amount { WritesAtMost header.old.block (V.view_of vault.old) (V.view_of vault.new) }
     {
         give::recut(
             vault,

@@ -14,7 +14,7 @@ ghost use Rattle.gd_vault.specs.Events.Call.{Write};
 ghost use Rattle.gd_vault.specs.Views.{View, HasFile, IsAt};
 ghost use Rattle.gd_vault.specs.Changes.{TellsAfter};
 ghost use Rattle.gd_space.specs.Effect.{WritesAtMost};
-ghost use Rattle.gd_vault.specs.Frame.{Within, OneFile, NoName};
+ghost use Rattle.gd_vault.specs.Streams.{OnlyWrites};
 ghost use Rattle.gd_space.specs.declared.stack.SpaceError.TheVariants.{VaultFault, BadAvail};
 
 use gd_base::Failed;
@@ -72,13 +72,13 @@ fn put_block(avail: &AvailBlock, size: u32, into: &mut [u8])
     requires elements { AllByRecursion FitsExtent avail.now.extents }
     requires size { size < 2 ^ 31 }
     requires count { length avail.now.extents < 2 ^ 31 }
-    ensures { Spells avail.now.extents avail.now.next_block into.new }
+    ensures { Spells size avail.now.extents avail.now.next_block into.new }
 {
     Native::write_avail(avail, size, into);
 }
 
 /// Writes a block of the stack, with this capacity in its size field.
-#[tactic(auto, using(gd_vault::proofs::Within::within))]
+#[tactic(auto, using(gd_vault::proofs::Writes::writes))]
 pub fn write_block<V: Vault>(
     vault: &mut V,
     f: FileId,
@@ -95,8 +95,8 @@ pub fn write_block<V: Vault>(
     requires count { length block.now.extents < 2 ^ 31 }
     ensures wrote { TellsAfter (Write f.0 at (take (avail_size (length block.now.extents)) buf.new)) (is_ok result) (V.view_of vault.old).told (V.view_of vault.new).told }
     ensures amount { WritesAtMost (avail_size (length block.now.extents)) (V.view_of vault.old) (V.view_of vault.new) }
-    ensures spells { Spells block.now.extents block.now.next_block (take (avail_size (length block.now.extents)) buf.new) }
-    ensures frame { Within (OneFile f.0) NoName (V.view_of vault.old) (V.view_of vault.new) }
+    ensures spells { Spells size block.now.extents block.now.next_block (take (avail_size (length block.now.extents)) buf.new) }
+    ensures frame { OnlyWrites f.0 (V.view_of vault.old) (V.view_of vault.new) }
     ensures error { IfErr result (λ e. e ≡ VaultFault) }
     ensures fault { OnErr result (Rose (V.view_of vault.old).faults (V.view_of vault.new).faults) }
 {
@@ -108,7 +108,7 @@ pub fn write_block<V: Vault>(
 }
 
 /// Reads a block of the stack into a list.
-#[tactic(auto, using(gd_vault::proofs::Within::within))]
+#[tactic(auto, using(gd_vault::proofs::Writes::writes))]
 pub fn read_block<V: Vault>(
     vault: &mut V,
     f: FileId,
@@ -122,7 +122,7 @@ pub fn read_block<V: Vault>(
     requires room { spare.old.room ≡ most }
     requires buffer { avail_size most ≤ length buf.old }
     ensures told { (V.view_of vault.new).told ≡ (V.view_of vault.old).told }
-    ensures frame { Within (OneFile f.0) NoName (V.view_of vault.old) (V.view_of vault.new) }
+    ensures frame { OnlyWrites f.0 (V.view_of vault.old) (V.view_of vault.new) }
     ensures extents { OnOk result (IsAt (V.view_of vault.old) (λ c. (x : File) → c.files f.0 ≡ Some x → spare.new.extents ≡ extents_at (stack_block x.bytes at))) }
     ensures next { OnOk result (IsAt (V.view_of vault.old) (λ c. (x : File) → c.files f.0 ≡ Some x → spare.new.next_block ≡ next_at (bytes_at x.bytes at 16))) }
     ensures fields { OnOk result (AllByRecursion FitsExtent spare.new.extents) }

@@ -7,12 +7,13 @@ ghost use Rattle.gd_format.specs.FreeSide.{IsBelow};
 ghost use Rattle.gd_format.specs.Sound.{extent, most_of, is_stack_block};
 ghost use Rattle.gd_space.specs.Sizes.{largest};
 ghost use Rattle.gd_layout.specs.Fits.{FitsExtent};
-ghost use Rattle.gd_space.specs.Effect.{growth, LiesInOne, WritesAtMost, TellsNone};
+ghost use Rattle.gd_space.specs.Effect.{growth, half_size, table_after, blocks_after, take_pushes, LiesInOne, WritesAtMost, TellsNone};
 ghost use Rattle.gd_space.specs.Calls.{HasFreeSide, Done, Backed, OnTable, growth_of};
+ghost use Rattle.gd_space.specs.Stacks.{Stacks, all_kept};
 ghost use Rattle.gd_space.specs.declared.stack.SpaceError.TheVariants.{VaultFault, FileFull, BadAvail, OutOfMemory};
 ghost use Rattle.gd_vault.specs.Content.{File};
 ghost use Rattle.gd_vault.specs.Views.{HasFile, IsAt};
-ghost use Rattle.gd_vault.specs.Frame.{Within, OneFile, NoName};
+ghost use Rattle.gd_vault.specs.Streams.{OnlyWrites};
 
 use crate::grow::growth_for;
 use crate::half::take_back;
@@ -46,7 +47,7 @@ pub fn growth_here(table: &AvailBlock, bucket: &Bucket, header: &Header, n: u32)
 }
 
 /// Takes n bytes from the lists at hand or from the file's end.
-#[tactic(auto, using(gd_vault::proofs::Within::within))]
+#[tactic(auto, using(gd_vault::proofs::Writes::writes))]
 pub fn take_now<V: Vault>(
     vault: &mut V,
     f: FileId,
@@ -72,6 +73,7 @@ pub fn take_now<V: Vault>(
     requires buffer { header.old.block ≤ length buf.old }
     requires fields { AllByRecursion FitsExtent table.old.extents }
     ensures done { IfOk result (λ at. Done (V.view_of vault.old) (V.view_of vault.new) f.0 header.old header.new table.old.next_block table.new.next_block table.old.extents bucket.old.free table.new.extents bucket.new.free [] (extent at n ∷ []) 32) }
+    ensures stack { OnOk result (Stacks (V.view_of vault.old) (V.view_of vault.new) f.0 header.old header.old.avail_size table.old.next_block table.new.next_block table.old.extents bucket.old.free (λ blocks. take_pushes n header.old table.old.extents bucket.old.free) all_kept) }
     ensures place { IfOk result (λ at. AllByRecursion (IsBelow header.old.next_block) table.old.extents → AllByRecursion (IsBelow header.old.next_block) bucket.old.free → LiesInOne (extent at n) (table.old.extents ++ bucket.old.free) ⊎ (header.old.next_block ≤ at)) }
     ensures growth { OnOk result (header.new.next_block ≡ header.old.next_block + growth_of n header.old table.old.extents bucket.old.free) }
     ensures below { OnOk result (header.new.next_block ≤ 2 ^ 46) }
@@ -82,8 +84,8 @@ pub fn take_now<V: Vault>(
     ensures length { length table.new.extents ≤ header.old.avail_size }
     ensures bits { bucket.new.bits ≡ bucket.old.bits }
     ensures slots { bucket.new.slots ≡ bucket.old.slots }
-    ensures frame { Within (OneFile f.0) NoName (V.view_of vault.old) (V.view_of vault.new) }
-    ensures amount { WritesAtMost header.old.block (V.view_of vault.old) (V.view_of vault.new) }
+    ensures frame { OnlyWrites f.0 (V.view_of vault.old) (V.view_of vault.new) }
+    ensures amount { WritesAtMost (half_size header.old.avail_size) (V.view_of vault.old) (V.view_of vault.new) }
     ensures error { IfErr result (λ e. (e ≡ VaultFault) ⊎ (e ≡ FileFull)) }
     ensures fault { IfErr result (λ e. e ≡ VaultFault → Rose (V.view_of vault.old).faults (V.view_of vault.new).faults) }
     ensures full_any { IfErr result (λ e. e ≡ FileFull → 2 ^ 46 < header.old.next_block + (n + 2 * header.old.block)) }
@@ -106,7 +108,7 @@ pub fn take_now<V: Vault>(
 
 /// Takes back the block at the top of the stack where the table is less than half full and has room
 /// for the block's extents and the block.
-#[tactic(auto, using(gd_vault::proofs::Within::within))]
+#[tactic(auto, using(gd_vault::proofs::Writes::writes))]
 pub fn back_up<V: Vault>(
     vault: &mut V,
     f: FileId,
@@ -130,7 +132,7 @@ pub fn back_up<V: Vault>(
     ensures room { table.new.room ≡ table.old.room }
     ensures spare_room { spare.new.room ≡ spare.old.room }
     ensures told { (V.view_of vault.new).told ≡ (V.view_of vault.old).told }
-    ensures frame { Within (OneFile f.0) NoName (V.view_of vault.old) (V.view_of vault.new) }
+    ensures frame { OnlyWrites f.0 (V.view_of vault.old) (V.view_of vault.new) }
     ensures fields { AllByRecursion FitsExtent table.old.extents → AllByRecursion FitsExtent table.new.extents }
     ensures kept { OnErr result (table.new ≡ table.old) }
     ensures amount { WritesAtMost 0 (V.view_of vault.old) (V.view_of vault.new) }
@@ -157,7 +159,7 @@ pub fn back_up<V: Vault>(
 }
 
 /// Takes n bytes, and answers their address.
-#[tactic(auto, using(gd_vault::proofs::Within::within))]
+#[tactic(auto, using(gd_vault::proofs::Writes::writes))]
 pub fn take<V: Vault>(
     vault: &mut V,
     f: FileId,
@@ -191,11 +193,12 @@ pub fn take<V: Vault>(
     ensures length { length table.new.extents ≤ header.old.avail_size }
     ensures bits { bucket.new.bits ≡ bucket.old.bits }
     ensures slots { bucket.new.slots ≡ bucket.old.slots }
-    ensures frame { Within (OneFile f.0) NoName (V.view_of vault.old) (V.view_of vault.new) }
+    ensures frame { OnlyWrites f.0 (V.view_of vault.old) (V.view_of vault.new) }
+    ensures stack { OnOk result (Stacks (V.view_of vault.old) (V.view_of vault.new) f.0 header.old header.old.avail_size table.old.next_block table.new.next_block table.old.extents bucket.old.free (λ blocks. take_pushes n header.old (table_after header.old.avail_size table.old.extents blocks) bucket.old.free) (blocks_after header.old.avail_size table.old.extents)) }
     ensures place { IfOk result (λ at. OnTable (V.view_of vault.old) f.0 header.old table.old.next_block table.old.extents bucket.old.free (λ table. LiesInOne (extent at n) (table ++ bucket.old.free) ⊎ (header.old.next_block ≤ at))) }
     ensures growth { OnOk result (OnTable (V.view_of vault.old) f.0 header.old table.old.next_block table.old.extents bucket.old.free (λ table. header.new.next_block ≡ header.old.next_block + growth_of n header.old table bucket.old.free)) }
     ensures bound { OnOk result (header.new.next_block < header.old.next_block + (n + 2 * header.old.block)) }
-    ensures amount { WritesAtMost header.old.block (V.view_of vault.old) (V.view_of vault.new) }
+    ensures amount { WritesAtMost (half_size header.old.avail_size) (V.view_of vault.old) (V.view_of vault.new) }
     ensures fault { IfErr result (λ e. e ≡ VaultFault → Rose (V.view_of vault.old).faults (V.view_of vault.new).faults) }
     ensures bad { IfErr result (λ e. (a : ℕ) → e ≡ BadAvail a → (a ≡ table.old.next_block) × TellsNone (V.view_of vault.old)) }
     ensures memory { IfErr result (λ e. e ≢ OutOfMemory) }

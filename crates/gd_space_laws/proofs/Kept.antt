@@ -16,8 +16,8 @@ use Rattle.gd_format.specs.Bucket.{Bucket, counts_at, raw_free_at, slots_at}
 use Rattle.gd_format.specs.Avail.{Avail, extents_at, is_avail, is_extent_right}
 use Rattle.gd_format.specs.File.{front_of, entry_at, entries_of, block_of, is_first, is_other_entry}
 use Rattle.gd_format.specs.Slots.{count, SameSlots}
-use Rattle.gd_format.specs.Sound.{extent, most_of, table_of, top_of, extents_held, is_free_right, meets_none}
-use Rattle.gd_format.specs.Covers.{has_byte, cover}
+use Rattle.gd_format.specs.Sound.{extent, most_of, table_of, top_of, extents_held, is_free_right, meets_none, total, lost_total}
+use Rattle.gd_format.specs.Covers.{has_byte, cover, size_sum}
 use Rattle.gd_format.specs.FreeSide.{StackBlock, IsStack, stack_extents, free_extents, IsBelow, IsFreeSide}
 use Rattle.gd_format.proofs.Firsts.{and-true, both_true}
 use Rattle.gd_layout.specs.Fits.{IsHeaderOf}
@@ -38,7 +38,7 @@ use Rattle.gd_map_laws.specs.Sounds.{pool_of}
 use Rattle.gd_map_laws.proofs.Lookup.{first_of_entry}
 use Rattle.gd_map_laws.proofs.Side.{side_kept}
 use Rattle.gd_map_laws.proofs.Sounds.{cover_is, below_is_avail, below_is_right}
-use Rattle.gd_map_laws.proofs.Space.{first_same, grown-some, space_changed, sum_change, sum_same}
+use Rattle.gd_map_laws.proofs.Space.{whole, first_same, grown-some, space_changed, sum_change, sum_same}
 use Rattle.gd_map_laws.proofs.Stays.{keeps_join, two_in_all}
 use Rattle.gd_space.specs.Effect.{Change}
 use Rattle.gd_space.specs.Effect as effect
@@ -46,6 +46,7 @@ use Rattle.gd_space.specs.Calls.{free_lists}
 use Rattle.gd_space_laws.specs.Patched.{patched, AreSpelled, IsPatch, free_cover}
 use Rattle.gd_space_laws.specs.PatchedLaws.{PatchKept}
 use Rattle.gd_space_laws.proofs.Meets.{meets_no}
+use Rattle.gd_space_laws.proofs.Lost.{totals, fits_before, lost_is}
 use Rattle.gd_space_laws.proofs.Patches.{parts_of, blocks}
 use Rattle.gd_space_laws.proofs.Patches as before
 use Rattle.gd_space_laws.proofs.Spelled.{two_blocks, length-patched, keeps, keeps_back, front_is, table_holds, top_is, count_is, free_is, free_reads, slots_are}
@@ -403,5 +404,70 @@ module _ (file file' : List ℕ) (h : Header) (n a : ℕ) (table table' : Avail)
         ]
       ]
 
-  pub kept_new : AreLarge taken → PatchKept p p' h h' given taken
-  kept_new some = record { meets = all_meet taken some (λ b. let o = once_new b in let c = covers_new b in omega (arith, o, c)); from = free_from }
+  -- ---- what is lost
+
+  lists_after : List Extent
+  lists_after = free_extents (free_lists table'.extents blocks' bucket'.free)
+
+  covers_old : (b : ℕ) → cover (extents_in (extents_held p h)) b ≡ all_cover p h pool b
+  covers_old b = cover_is p h b ∙ ap (λ (l : List Extent). all_cover p h l b) (before.pool_is file h table i at bucket block front patch)
+
+  below_old : (b : ℕ) → 0 < all_cover p h pool b → b < n
+  below_old b some = let l = (before.space file h table i at bucket block front patch).below b some in let g = grows in omega (arith, l, g)
+
+  free_before : (b : ℕ) → cover lists_before b ≤ all_cover p h pool b
+  free_before b = let q = before.parts file h table i at bucket block front patch b in omega (arith, q)
+
+  free_after : (b : ℕ) → cover lists_after b ≤ all_cover p' h' pool' b
+  unfolding lists_after
+  free_after b = let q = parts_of file' h' table' i at bucket' block' front' pool' b spelled least behind inside' patch.entry place_new in omega (arith, q)
+
+  balanced : (b : ℕ) → cover (extents_in (extents_held p h)) b + cover lists_after b ≡ cover (extents_in (extents_held p' h')) b + cover lists_before b
+  unfolding lists_after
+  balanced b =
+      let w = whole p p' h i [] [] bucket.slots h.next_block n (pool ++ given) (pool' ++ taken) patch.entry right changed b in
+      let u = ap (λ (l : List Extent). cover l b) free_new in
+      let v = ap (λ (l : List Extent). cover l b) (before.free_here file h table i at bucket block front patch) in
+      let x = cover-append pool given b in
+      let y = cover-append pool' taken b in
+      let k = cover_more p h pool given b in
+      let m = cover_more p' h pool' taken b in
+      let s = cover_shape p' h n a pool' b in
+      let l = cover-append pool bucket.free b in
+      let l2 = cover-append pool' bucket'.free b in
+      let c = covers_old b in
+      let d = covers_new b in
+      omega (arith, w, u, v, x, y, k, m, s, l, l2, c, d)
+
+  sum_is : total (extents_held p h) + size_sum lists_after ≡ total (extents_held p' h') + size_sum lists_before
+  sum_is =
+      totals (extents_held p h) (extents_held p' h') lists_before lists_after n balanced
+      (λ b some. below_old b (let c = covers_old b in omega (arith, c, some)))
+      (λ b some. below_new b (let c = covers_new b in omega (arith, c, some)))
+      (λ b some. below_old b (let c = free_before b in omega (arith, c, some)))
+      (λ b some. below_new b (let c = free_after b in omega (arith, c, some)))
+
+  fits_old : total (extents_held p h) ≤ h.next_block
+  fits_old =
+      fits_before (extents_held p h) h.next_block (before.points file h table i at bucket block front patch).once
+      (λ b some. (before.space file h table i at bucket block front patch).below b (let c = covers_old b in omega (arith, c, some)))
+
+  fits_new : total (extents_held p' h') ≤ n
+  fits_new = fits_before (extents_held p' h') n points_new.once (λ b some. below_new b (let c = covers_new b in omega (arith, c, some)))
+
+  lost_old : lost_total p ≡ h.next_block - total (extents_held p h)
+  lost_old = lost_is p h (before.front_header file h table i at bucket block front patch)
+
+  lost_new : lost_total p' ≡ n - total (extents_held p' h')
+  lost_new = lost_is p' h' (before.front_header file' h' table' i at bucket' block' front' patch_new)
+
+  lost_least : lost_total p + size_sum taken ≤ lost_total p' + size_sum given
+  unfolding lists_after
+  lost_least = let s = sum_is in let f = fits_old in let g = fits_new in let a = lost_old in let b = lost_new in let m = change.moves.least in let k = grows in omega (arith, s, f, g, a, b, m, k)
+
+  lost_most : lost_total p' + size_sum given ≤ lost_total p + size_sum taken + lost
+  unfolding lists_after
+  lost_most = let s = sum_is in let f = fits_old in let g = fits_new in let a = lost_old in let b = lost_new in let m = change.moves.most in let k = grows in omega (arith, s, f, g, a, b, m, k)
+
+  pub kept_new : AreLarge taken → PatchKept p p' h h' given taken lost
+  kept_new some = record { meets = all_meet taken some (λ b. let o = once_new b in let c = covers_new b in omega (arith, o, c)); from = free_from; lost_least = lost_least; lost_most = lost_most }

@@ -1,3 +1,4 @@
+pub mod Lost
 pub mod Sized
 pub mod Meets
 pub mod Spelled

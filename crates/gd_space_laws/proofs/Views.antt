@@ -50,7 +50,7 @@ module _ (old new : View) (f : ℕ) (h : Header) (next capacity : ℕ) (table ta
   right_alone : IsSpaceRight p h h.next_block (pool ++ [])
   right_alone = subst (λ (l : List Extent). IsSpaceRight p h h.next_block l) (sym (append-nil pool)) (space x.bytes h table i at bucket block front patch)
 
-  done_keeps : (taken : List Extent) (lost : ℕ) → AreLarge taken → Done old new f h after table.next_block table'.next_block table.extents bucket.free table'.extents bucket'.free [] taken lost → KeptAfter new f p h after table' i at bucket' [] taken
+  done_keeps : (taken : List Extent) (lost : ℕ) → AreLarge taken → Done old new f h after table.next_block table'.next_block table.extents bucket.free table'.extents bucket'.free [] taken lost → KeptAfter new f p h after table' i at bucket' [] taken lost
   done_keeps taken lost some done =
       let a = done c x stack told there (side x.bytes h table i at bucket block front patch) in
       record {
@@ -123,7 +123,7 @@ module _ (old new : View) (f : ℕ) (h : Header) (next capacity : ℕ) (table ta
       moves = g.moves;
     }
 
-    gave_keeps : Gave old new f h after table.next_block table'.next_block table.extents bucket.free table'.extents bucket'.free e → KeptAfter new f p h after table' i at bucket' (e ∷ []) []
+    gave_keeps : Gave old new f h after table.next_block table'.next_block table.extents bucket.free table'.extents bucket'.free e → KeptAfter new f p h after table' i at bucket' (e ∷ []) [] 32
     gave_keeps gave =
         let a = gave c x stack told there (side x.bytes h table i at bucket block front patch) in
         let change = change_of a.file.bytes table'.next_block (free_lists table'.extents a.blocks bucket'.free) a.given in
@@ -141,10 +141,10 @@ module _ (old new : View) (f : ℕ) (h : Header) (next capacity : ℕ) (table ta
 pub done_kept : (old new : View) (f : ℕ) (h h' : Header) (next capacity : ℕ) (table table' : Avail) (i at : ℕ) (bucket bucket' : Bucket) (block front : List ℕ) (taken : List Extent) (lost : ℕ) (c : Content) (x : File)
     → AreLarge taken → content_of old.told ≡ Some c → c.files f ≡ Some x → IsPatch x.bytes h table i at bucket block front → IsNext h h' next capacity table' bucket bucket'
     → Done old new f h h' table.next_block table'.next_block table.extents bucket.free table'.extents bucket'.free [] taken lost
-    → KeptAfter new f (patched x.bytes at block front) h h' table' i at bucket' [] taken
+    → KeptAfter new f (patched x.bytes at block front) h h' table' i at bucket' [] taken lost
 done_kept old new f h h' next capacity table table' i at bucket bucket' block front taken lost c x some told there patch is_next done =
     subst
-    (λ (g : Header). IsNext h g next capacity table' bucket bucket' → Done old new f h g table.next_block table'.next_block table.extents bucket.free table'.extents bucket'.free [] taken lost → KeptAfter new f (patched x.bytes at block front) h g table' i at bucket' [] taken)
+    (λ (g : Header). IsNext h g next capacity table' bucket bucket' → Done old new f h g table.next_block table'.next_block table.extents bucket.free table'.extents bucket'.free [] taken lost → KeptAfter new f (patched x.bytes at block front) h g table' i at bucket' [] taken lost)
     (sym is_next.header)
     (λ (n : IsNext h (with_fields h next capacity) next capacity table' bucket bucket') (d : Done old new f h (with_fields h next capacity) table.next_block table'.next_block table.extents bucket.free table'.extents bucket'.free [] taken lost). done_keeps old new f h next capacity table table' i at bucket bucket' block front c x told there patch n taken lost some d)
     is_next done
@@ -153,10 +153,10 @@ pub gave_kept : (old new : View) (f : ℕ) (h h' : Header) (next capacity : ℕ)
     → e.size < 2 ^ 31 → e.at + e.size ≤ h.next_block → meets_none e (extents_held (patched x.bytes at block front) h) ≡ true
     → content_of old.told ≡ Some c → c.files f ≡ Some x → IsPatch x.bytes h table i at bucket block front → IsNext h h' next capacity table' bucket bucket'
     → Gave old new f h h' table.next_block table'.next_block table.extents bucket.free table'.extents bucket'.free e
-    → KeptAfter new f (patched x.bytes at block front) h h' table' i at bucket' (e ∷ []) []
+    → KeptAfter new f (patched x.bytes at block front) h h' table' i at bucket' (e ∷ []) [] 32
 gave_kept old new f h h' next capacity table table' i at bucket bucket' block front e c x small ends none told there patch is_next gave =
     subst
-    (λ (g : Header). IsNext h g next capacity table' bucket bucket' → Gave old new f h g table.next_block table'.next_block table.extents bucket.free table'.extents bucket'.free e → KeptAfter new f (patched x.bytes at block front) h g table' i at bucket' (e ∷ []) [])
+    (λ (g : Header). IsNext h g next capacity table' bucket bucket' → Gave old new f h g table.next_block table'.next_block table.extents bucket.free table'.extents bucket'.free e → KeptAfter new f (patched x.bytes at block front) h g table' i at bucket' (e ∷ []) [] 32)
     (sym is_next.header)
     (λ (n : IsNext h (with_fields h next capacity) next capacity table' bucket bucket') (d : Gave old new f h (with_fields h next capacity) table.next_block table'.next_block table.extents bucket.free table'.extents bucket'.free e). gave_keeps old new f h next capacity table table' i at bucket bucket' block front c x told there patch n e small ends none d)
     is_next gave

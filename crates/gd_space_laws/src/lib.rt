@@ -9,17 +9,18 @@ pub fn patch_has_side()
     ensures { PatchHasSide }
 {}
 
-/// A `take` keeps the points, and no extent meets the bytes that were taken.
+/// A `take` keeps the points, and no extent meets the bytes that were taken. What is lost rises by these bytes, and by the
+/// call's few at most (32).
 pub fn take_keeps_patch()
     ensures { TakeKeepsPatch }
 {}
 
-/// A `recut` keeps the points.
+/// A `recut` keeps the points. What is lost rises by what it loses at most.
 pub fn recut_keeps_patch()
     ensures { RecutKeepsPatch }
 {}
 
-/// A `give` keeps the points, for an extent that ends in time and meets none.
+/// A `give` keeps the points, for an extent that ends in time and meets none. What is lost falls by its size less 32 at least.
 pub fn give_keeps_patch()
     ensures { GiveKeepsPatch }
 {}

@@ -5,7 +5,7 @@ use Rattle.gd_format.specs.FreeSide.{StackBlock, IsFreeSide}
 use Rattle.gd_space.specs.Spells.{Spells}
 use Rattle.gd_space.specs.Calls.{free_lists}
 use Rattle.gd_space.proofs.Sides.{Pushes}
-use Rattle.gd_space.proofs.Dones.{done_by_push}
+use Rattle.gd_space.proofs.Pushing.{by_push}
 use Rattle.gd_space.proofs.Pushes.{table_below, bucket_below}
 use Rattle.gd_vault.specs.Content.{File}
 use Rattle.gd_space.proofs.give.push_last.Goals as goal
@@ -19,8 +19,8 @@ write_block-requires-clause-place g c = λ k told x there.
     let below = c.in-Some.ensures.below in
     omega (arith, ends, below)
 
-pub returns-clause-done : goal.returns-clause-done
-returns-clause-done g c =
+pub returns-clause-pushed : goal.returns-clause-pushed
+returns-clause-pushed g c =
     let old = g.V.Vault.view_of c.args.vault.now in
     let new = g.V.Vault.view_of c.write_block.new.vault in
     let next' : ℕ = c.args.header.now.next_block + c.in-Some.filled.grown in
@@ -32,7 +32,7 @@ returns-clause-done g c =
     let top_is : c.set_next_block.new.self.next_block ≡ c.args.table.now.next_block = ap (λ (z : Avail). z.next_block) r ∙ c.next_block.ensures ∙ c.in-Some.ensures.next in
     let top_new : c.set_next_block-2.new.self.next_block ≡ c.in-Some.filled.block.at = ap (λ (z : Avail). z.next_block) s in
     let table_new : c.set_next_block-2.new.self.extents ≡ c.fill_block.new.table.extents = ap (λ (z : Avail). z.extents) s in
-    let spells : Spells c.set_next_block.new.self.extents c.args.table.now.next_block (take (avail_size (length c.set_next_block.new.self.extents)) c.write_block.new.buf) = rw (← top_is) c.in_ok-write_block.ensures.spells in
+    let spells : Spells c.args.size c.set_next_block.new.self.extents c.args.table.now.next_block (take (avail_size (length c.set_next_block.new.self.extents)) c.write_block.new.buf) = rw (← top_is) c.in_ok-write_block.ensures.spells in
     let holds = c.in-Some.ensures.holds in
     let wide = c.in-Some.ensures.wide in
     let least = c.in-Some.ensures.least in
@@ -62,6 +62,6 @@ returns-clause-done g c =
     }
     in
     rw (top_new, table_new)
-    (done_by_push old new c.args.f.0 (take (avail_size (length c.set_next_block.new.self.extents)) c.write_block.new.buf) c.args.header.now next' c.args.table.now.next_block c.args.table.now.extents c.args.bucket.now.free
+    (by_push old new c.args.f.0 (take (avail_size (length c.set_next_block.new.self.extents)) c.write_block.new.buf) c.args.header.now c.args.size next' c.args.table.now.next_block c.args.table.now.extents c.args.bucket.now.free
     c.fill_block.new.table.extents c.fill_block.new.bucket.free c.set_next_block.new.self.extents c.in-Some.filled.block [] (c.args.wide - avail_size c.args.count)
     c.in_ok-write_block.ensures.wrote spells lost pushes)

@@ -6,7 +6,7 @@ use Rattle.gd_space.specs.Lists.{Split}
 use Rattle.gd_format.specs.Sound.{extent}
 use Rattle.gd_format.specs.FreeSide.{StackBlock, IsFreeSide}
 use Rattle.gd_space.proofs.Sides.{Pushes}
-use Rattle.gd_space.proofs.Dones.{done_by_push}
+use Rattle.gd_space.proofs.Pushing.{by_push}
 use Rattle.gd_vault.specs.Content.{File}
 use Rattle.gd_space.specs.Calls.{free_lists}
 use Rattle.gd_space.proofs.Pushes.{table_below, bucket_below, push_steps}
@@ -24,8 +24,8 @@ write_block-requires-clause-place g c = λ k told x there.
     let n = c.ranges.n.fits in
     omega (arith, ends, bound, next, large, n)
 
-pub returns-clause-done : goal.returns-clause-done
-returns-clause-done g c =
+pub returns-clause-pushed : goal.returns-clause-pushed
+returns-clause-pushed g c =
     let old = g.V.Vault.view_of c.args.vault.now in
     let new = g.V.Vault.view_of c.write_block.new.vault in
     let h = c.args.header.now in
@@ -42,7 +42,7 @@ returns-clause-done g c =
     let count : length c.set_next_block.new.self.extents ≡ c.args.header.now.avail_size / 2 = ap (λ (z : List Extent). length z) spare_is ∙ c.move_last.ensures.count in
     let top_new : c.set_next_block-2.new.self.next_block ≡ c.choose-chosen.result.block.at = ap (λ (z : Avail). z.next_block) s in
     let table_new : c.set_next_block-2.new.self.extents ≡ c.move_last.new.table.extents ++ c.choose-chosen.result.over ∷ [] = ap (λ (z : Avail). z.extents) s ∙ ap (λ (z : Avail). z.extents) t in
-    let spells : Spells c.set_next_block.new.self.extents c.args.table.now.next_block (take (avail_size (length c.set_next_block.new.self.extents)) c.write_block.new.buf) = rw (← top_is) c.in_ok-write_block.ensures.spells in
+    let spells : Spells c.args.header.now.avail_size c.set_next_block.new.self.extents c.args.table.now.next_block (take (avail_size (length c.set_next_block.new.self.extents)) c.write_block.new.buf) = rw (← top_is) c.in_ok-write_block.ensures.spells in
     let size = c.choose-chosen.ensures.size in
     let wide = c.choose-chosen.ensures.wide in
     let cap = c.requires.capacity in
@@ -70,6 +70,6 @@ returns-clause-done g c =
     }
     in
     rw (top_new, table_new)
-    (done_by_push old new c.args.f.0 (take (avail_size (length c.set_next_block.new.self.extents)) c.write_block.new.buf) c.args.header.now next' c.args.table.now.next_block c.args.table.now.extents c.args.bucket.now.free
+    (by_push old new c.args.f.0 (take (avail_size (length c.set_next_block.new.self.extents)) c.write_block.new.buf) c.args.header.now c.args.header.now.avail_size next' c.args.table.now.next_block c.args.table.now.extents c.args.bucket.now.free
     (c.move_last.new.table.extents ++ c.choose-chosen.result.over ∷ []) c.choose-chosen.new.bucket.free c.set_next_block.new.self.extents c.choose-chosen.result.block (extent c.args.header.now.next_block c.args.n ∷ []) 32
     c.in_ok-write_block.ensures.wrote spells lost pushes)

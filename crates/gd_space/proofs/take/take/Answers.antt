@@ -5,6 +5,7 @@ use Rattle.gd_format.specs.Sound.{most_of}
 use Rattle.gd_space.specs.Calls.{free_lists}
 use Rattle.gd_space.proofs.Pushes.{table_below, bucket_below}
 use Rattle.gd_space.proofs.Dones.{done_after_back, top-right, tells_none}
+use Rattle.gd_space.proofs.Pushing.{pushed_after_back}
 use Rattle.gd_space.proofs.take.take.Goals as goal
 
 pub take_now-requires-clause-side : goal.take_now-requires-clause-side
@@ -48,3 +49,8 @@ returns-in-Ok-clause-place g c = λ k x blocks told there side.
     let b = c.in_default.ensures.back k x blocks c.args.bucket.now.free told there side in
     let s = b.side in
     rw (← b.by_rule) (c.in-Ok.ensures.place (table_below c.args.header.now.next_block (free_lists c.back_up.new.table.extents b.rest c.args.bucket.now.free) s.below) (bucket_below c.args.header.now.next_block (free_lists c.back_up.new.table.extents b.rest c.args.bucket.now.free) s.below))
+
+pub returns-in-Ok-clause-stack : goal.returns-in-Ok-clause-stack
+returns-in-Ok-clause-stack g c =
+    pushed_after_back (g.V.Vault.view_of c.args.vault.now) (g.V.Vault.view_of c.back_up.new.vault) (g.V.Vault.view_of c.take_now.new.vault) c.args.f.0 c.args.n c.args.header.now c.args.header.now.avail_size c.args.table.now.next_block c.back_up.new.table.next_block c.take_now.new.table.next_block
+    c.args.table.now.extents c.args.bucket.now.free c.back_up.new.table.extents c.back_up.ensures.told c.in_default.ensures.back c.in-Ok.ensures.stack

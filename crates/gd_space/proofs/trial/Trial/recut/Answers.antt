@@ -1,5 +1,5 @@
-use Rattle.std.proofs.Common.{◌≡◌, ◌≤◌, ◌<◌, length, ℕ, arith}
-use Rattle.gd_space.proofs.Trials.{room_512, trial_recut}
+use Rattle.std.proofs.Common.{arith}
+use Rattle.gd_space.proofs.Trials.{room_512}
 use Rattle.gd_space.proofs.trial.Trial.recut.Goals as goal
 
 pub recut-requires-clause-most : goal.recut-requires-clause-most
