@@ -15,7 +15,7 @@ ghost use Rattle.gd_space.specs.Effect.{WritesAtMost, TellsNone};
 ghost use Rattle.gd_space.specs.Calls.{OnTable, growth_of};
 ghost use Rattle.gd_vault.specs.Content.{File};
 ghost use Rattle.gd_vault.specs.Views.{HasFile, IsAt};
-ghost use Rattle.gd_vault.specs.Frame.{Within, OneFile, NoName};
+ghost use Rattle.gd_vault.specs.Streams.{OnlyWrites};
 ghost use Rattle.gd_change.specs.Calls.{CanChange, Changes};
 ghost use Rattle.gd_change.specs.Open.{IsPlaceOf, slot_key, slot_growth};
 
@@ -33,7 +33,7 @@ use gd_vault::{FileId, Vault};
 /// none has it, the bucket has an empty slot.
 ///
 /// The new record is written before the room of the old one is given back.
-#[tactic(auto, using(gd_vault::proofs::Within::within))]
+#[tactic(auto, using(gd_vault::proofs::Writes::writes))]
 pub fn put<V: Vault>(
     vault: &mut V,
     f: FileId,
@@ -75,8 +75,8 @@ pub fn put<V: Vault>(
     ensures bits { bucket.new.bits ≡ bucket.old.bits }
     ensures block { space.new.block ≡ space.old.block }
     ensures table_room { space.new.table.room ≡ space.old.table.room }
-    ensures frame { Within (OneFile f.0) NoName (V.view_of vault.old) (V.view_of vault.new) }
-    ensures amount { WritesAtMost (length key.now + length value.now + 4 * header.old.block) (V.view_of vault.old) (V.view_of vault.new) }
+    ensures frame { OnlyWrites f.0 (V.view_of vault.old) (V.view_of vault.new) }
+    ensures amount { WritesAtMost (length key.now + length value.now + 3 * header.old.block) (V.view_of vault.old) (V.view_of vault.new) }
 {
     let record = place_record(vault, f, space, header, at, bucket, key, value)?;
     let slot = slot_for(hash, key, value.len() as u32, record);
@@ -86,7 +86,7 @@ pub fn put<V: Vault>(
 }
 
 /// Removes the record of the full slot at a place from its bucket, which stands at the address `at`.
-#[tactic(auto, using(gd_vault::proofs::Within::within))]
+#[tactic(auto, using(gd_vault::proofs::Writes::writes))]
 pub fn remove<V: Vault>(
     vault: &mut V,
     f: FileId,
@@ -119,7 +119,7 @@ pub fn remove<V: Vault>(
     ensures bits { bucket.new.bits ≡ bucket.old.bits }
     ensures block { space.new.block ≡ space.old.block }
     ensures table_room { space.new.table.room ≡ space.old.table.room }
-    ensures frame { Within (OneFile f.0) NoName (V.view_of vault.old) (V.view_of vault.new) }
+    ensures frame { OnlyWrites f.0 (V.view_of vault.old) (V.view_of vault.new) }
     ensures amount { WritesAtMost (3 * header.old.block) (V.view_of vault.old) (V.view_of vault.new) }
 {
     let gone = bucket.slots()[place as usize];

@@ -1,20 +1,20 @@
 //! The last steps of a change: the old record's room is given back, and the blocks of the bucket and of the header are
 //! written.
 
-ghost use Rattle.std.specs.Prelude.{◌≡◌, ◌≢◌, ◌⊎◌, ◌+◌, ◌*◌, ◌<◌, ◌≤◌, ◌^◌, ℕ, Some, length, max, [], ◌∷◌, ◌++◌, is_ok, IfOk, IfErr, OnOk, OnErr};
+ghost use Rattle.std.specs.Prelude.{◌≡◌, ◌≢◌, ◌⊎◌, ◌+◌, ◌*◌, ◌/◌, ◌<◌, ◌≤◌, ◌^◌, ℕ, Some, length, max, [], ◌∷◌, ◌++◌, is_ok, IfOk, IfErr, OnOk, OnErr};
 ghost use Rattle.gd_base.specs.Causes.{Rose};
 ghost use Rattle.gd_base.specs.declared.errors.DbError.TheVariants.{VaultFault};
 ghost use Rattle.gd_format.specs.Headers.{IsHeader};
 ghost use Rattle.gd_format.specs.Sound.{extent, place_of};
 ghost use Rattle.gd_format.specs.Avail.{avail_size};
 ghost use Rattle.gd_layout.specs.Fits.{FitsFields, FitsHeader};
-ghost use Rattle.gd_space.specs.Effect.{WritesAtMost, give_growth};
+ghost use Rattle.gd_space.specs.Effect.{push_size, WritesAtMost, give_growth};
 ghost use Rattle.gd_space.specs.Calls.{HasFreeSide};
 ghost use Rattle.gd_vault.specs.Content.{File};
 ghost use Rattle.gd_vault.specs.Events.Call.{Write};
 ghost use Rattle.gd_vault.specs.Changes.{TellsAfter};
 ghost use Rattle.gd_vault.specs.Views.{HasFile, IsAt};
-ghost use Rattle.gd_vault.specs.Frame.{Within, OneFile, NoName};
+ghost use Rattle.gd_vault.specs.Streams.{OnlyWrites};
 ghost use Rattle.gd_change.specs.Calls.{GivesBack, Finishes};
 ghost use Rattle.gd_change.specs.Open.{slot_growth};
 ghost use Rattle.gd_change.specs.Steps.{SpellsBucket, SpellsHeader};
@@ -27,7 +27,7 @@ use gd_space::Space;
 use gd_vault::{FileId, Vault};
 
 // Gives back the room of a slot's record, where it has a byte.
-#[tactic(auto, using(gd_vault::proofs::Within::within))]
+#[tactic(auto, using(gd_vault::proofs::Writes::writes))]
 fn give_back<V: Vault>(
     vault: &mut V,
     f: FileId,
@@ -55,8 +55,8 @@ fn give_back<V: Vault>(
     ensures slots { bucket.new.slots ≡ bucket.old.slots }
     ensures block { space.new.block ≡ space.old.block }
     ensures table_room { space.new.table.room ≡ space.old.table.room }
-    ensures frame { Within (OneFile f.0) NoName (V.view_of vault.old) (V.view_of vault.new) }
-    ensures amount { WritesAtMost header.old.block (V.view_of vault.old) (V.view_of vault.new) }
+    ensures frame { OnlyWrites f.0 (V.view_of vault.old) (V.view_of vault.new) }
+    ensures amount { WritesAtMost (push_size (header.old.avail_size / 2)) (V.view_of vault.old) (V.view_of vault.new) }
 {
     let Some(extent) = record_in(gone) else {
         return Ok(());
@@ -68,7 +68,7 @@ fn give_back<V: Vault>(
 }
 
 // Writes the block of a bucket.
-#[tactic(auto, using(gd_vault::proofs::Within::within))]
+#[tactic(auto, using(gd_vault::proofs::Writes::writes))]
 fn write_bucket<V: Vault>(
     vault: &mut V,
     f: FileId,
@@ -83,7 +83,7 @@ fn write_bucket<V: Vault>(
     ensures wrote { TellsAfter (Write f.0 at buf.new) (is_ok result) (V.view_of vault.old).told (V.view_of vault.new).told }
     ensures spells { SpellsBucket bucket.now (length bucket.now.slots) buf.new }
     ensures amount { WritesAtMost (length buf.old) (V.view_of vault.old) (V.view_of vault.new) }
-    ensures frame { Within (OneFile f.0) NoName (V.view_of vault.old) (V.view_of vault.new) }
+    ensures frame { OnlyWrites f.0 (V.view_of vault.old) (V.view_of vault.new) }
     ensures error { IfErr result (λ e. e ≡ VaultFault) }
     ensures fault { OnErr result (Rose (V.view_of vault.old).faults (V.view_of vault.new).faults) }
 {
@@ -95,7 +95,7 @@ fn write_bucket<V: Vault>(
 }
 
 // Writes the block of the header, with the table of free space.
-#[tactic(auto, using(gd_vault::proofs::Within::within))]
+#[tactic(auto, using(gd_vault::proofs::Writes::writes))]
 fn write_header<V: Vault>(
     vault: &mut V,
     f: FileId,
@@ -112,7 +112,7 @@ fn write_header<V: Vault>(
     ensures wrote { TellsAfter (Write f.0 0 buf.new) (is_ok result) (V.view_of vault.old).told (V.view_of vault.new).told }
     ensures spells { SpellsHeader header.now table.now buf.new }
     ensures amount { WritesAtMost header.now.block (V.view_of vault.old) (V.view_of vault.new) }
-    ensures frame { Within (OneFile f.0) NoName (V.view_of vault.old) (V.view_of vault.new) }
+    ensures frame { OnlyWrites f.0 (V.view_of vault.old) (V.view_of vault.new) }
     ensures error { IfErr result (λ e. e ≡ VaultFault) }
     ensures fault { OnErr result (Rose (V.view_of vault.old).faults (V.view_of vault.new).faults) }
 {
@@ -124,7 +124,7 @@ fn write_header<V: Vault>(
 }
 
 /// Gives back the room of the record that goes, and writes the blocks of the bucket and of the header.
-#[tactic(auto, using(gd_vault::proofs::Within::within))]
+#[tactic(auto, using(gd_vault::proofs::Writes::writes))]
 pub fn finish<V: Vault>(
     vault: &mut V,
     f: FileId,
@@ -157,8 +157,8 @@ pub fn finish<V: Vault>(
     ensures slots { bucket.new.slots ≡ bucket.old.slots }
     ensures block { space.new.block ≡ space.old.block }
     ensures table_room { space.new.table.room ≡ space.old.table.room }
-    ensures frame { Within (OneFile f.0) NoName (V.view_of vault.old) (V.view_of vault.new) }
-    ensures amount { WritesAtMost (3 * header.old.block) (V.view_of vault.old) (V.view_of vault.new) }
+    ensures frame { OnlyWrites f.0 (V.view_of vault.old) (V.view_of vault.new) }
+    ensures amount { WritesAtMost (2 * header.old.block + push_size (header.old.avail_size / 2)) (V.view_of vault.old) (V.view_of vault.new) }
 {
     give_back(vault, f, space, header, at, bucket, gone)?;
     write_bucket(vault, f, at, bucket, buf)?;

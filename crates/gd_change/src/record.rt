@@ -5,11 +5,11 @@ ghost use Rattle.gd_base.specs.Causes.{Rose};
 ghost use Rattle.gd_base.specs.declared.errors.DbError.TheVariants.{VaultFault, BadAvail};
 ghost use Rattle.gd_format.specs.Headers.{IsHeader};
 ghost use Rattle.gd_format.specs.Sound.{extent};
-ghost use Rattle.gd_space.specs.Effect.{WritesAtMost, TellsNone};
+ghost use Rattle.gd_space.specs.Effect.{half_size, WritesAtMost, TellsNone};
 ghost use Rattle.gd_space.specs.Calls.{HasFreeSide, Done, OnTable, growth_of};
 ghost use Rattle.gd_vault.specs.Content.{File};
 ghost use Rattle.gd_vault.specs.Views.{HasFile, IsAt};
-ghost use Rattle.gd_vault.specs.Frame.{Within, OneFile, NoName};
+ghost use Rattle.gd_vault.specs.Streams.{OnlyWrites};
 ghost use Rattle.gd_change.specs.Calls.{db_error_of, Goes, PutsRecord};
 ghost use Rattle.gd_change.specs.Steps.{PutAt};
 
@@ -31,13 +31,13 @@ pub fn db_error(e: SpaceError) -> DbError
 }
 
 // Writes bytes at a place, where there are any.
-#[tactic(auto, using(gd_vault::proofs::Within::within))]
+#[tactic(auto, using(gd_vault::proofs::Writes::writes))]
 fn put_bytes<V: Vault>(vault: &mut V, f: FileId, at: u64, bytes: &[u8]) -> Result<(), DbError>
     requires file { HasFile (V.view_of vault.old) f.0 }
     requires place { IsAt (V.view_of vault.old) (λ c. (x : File) → c.files f.0 ≡ Some x → at ≤ max (length x.bytes) (2 ^ 47)) }
     ensures put { OnOk result (Goes (V.view_of vault.old) (V.view_of vault.new) f.0 (λ x y. PutAt x y at bytes.now)) }
     ensures amount { WritesAtMost (length bytes.now) (V.view_of vault.old) (V.view_of vault.new) }
-    ensures frame { Within (OneFile f.0) NoName (V.view_of vault.old) (V.view_of vault.new) }
+    ensures frame { OnlyWrites f.0 (V.view_of vault.old) (V.view_of vault.new) }
     ensures error { IfErr result (λ e. e ≡ VaultFault) }
     ensures fault { OnErr result (Rose (V.view_of vault.old).faults (V.view_of vault.new).faults) }
 {
@@ -51,7 +51,7 @@ fn put_bytes<V: Vault>(vault: &mut V, f: FileId, at: u64, bytes: &[u8]) -> Resul
 }
 
 // Takes room for n bytes, which may be none.
-#[tactic(auto, using(gd_vault::proofs::Within::within))]
+#[tactic(auto, using(gd_vault::proofs::Writes::writes))]
 fn take_room<V: Vault>(
     vault: &mut V,
     f: FileId,
@@ -81,8 +81,8 @@ fn take_room<V: Vault>(
     ensures slots { bucket.new.slots ≡ bucket.old.slots }
     ensures block { space.new.block ≡ space.old.block }
     ensures table_room { space.new.table.room ≡ space.old.table.room }
-    ensures frame { Within (OneFile f.0) NoName (V.view_of vault.old) (V.view_of vault.new) }
-    ensures amount { WritesAtMost header.old.block (V.view_of vault.old) (V.view_of vault.new) }
+    ensures frame { OnlyWrites f.0 (V.view_of vault.old) (V.view_of vault.new) }
+    ensures amount { WritesAtMost (half_size header.old.avail_size) (V.view_of vault.old) (V.view_of vault.new) }
 {
     if n == 0 {
         return Ok(0);
@@ -99,7 +99,7 @@ fn take_room<V: Vault>(
 }
 
 /// Takes room for a record, and writes it there: the key, and behind it the value.
-#[tactic(auto, using(gd_vault::proofs::Within::within))]
+#[tactic(auto, using(gd_vault::proofs::Writes::writes))]
 pub fn place_record<V: Vault>(
     vault: &mut V,
     f: FileId,
@@ -130,8 +130,8 @@ pub fn place_record<V: Vault>(
     ensures slots { bucket.new.slots ≡ bucket.old.slots }
     ensures block { space.new.block ≡ space.old.block }
     ensures table_room { space.new.table.room ≡ space.old.table.room }
-    ensures frame { Within (OneFile f.0) NoName (V.view_of vault.old) (V.view_of vault.new) }
-    ensures amount { WritesAtMost (length key.now + length value.now + header.old.block) (V.view_of vault.old) (V.view_of vault.new) }
+    ensures frame { OnlyWrites f.0 (V.view_of vault.old) (V.view_of vault.new) }
+    ensures amount { WritesAtMost (length key.now + length value.now + half_size header.old.avail_size) (V.view_of vault.old) (V.view_of vault.new) }
 {
     let n = key.len() as u32 + value.len() as u32;
     let place = take_room(vault, f, space, header, at, bucket, n)?;

@@ -1,5 +1,5 @@
 -- Headers over the rounds of a chain, and what is written.
-use Rattle.std.proofs.Common.{◌≡◌, ℕ, ◌+◌, ◌-◌, ◌*◌, ◌^◌, ◌<◌, ◌≤◌, refl, sym, ap, ◌∙◌, arith}
+use Rattle.std.proofs.Common.{◌≡◌, ℕ, ◌+◌, ◌-◌, ◌*◌, ◌/◌, ◌^◌, ◌<◌, ◌≤◌, refl, sym, ap, ◌∙◌, arith}
 use Rattle.std.proofs.lemmas.Nat.{pow_pos, pow-add}
 use Rattle.std.proofs.Math.Nat.{pow-le-pow_right}
 use Rattle.gd_format.specs.declared.Header.{Header}
@@ -9,7 +9,7 @@ use Rattle.gd_space.specs.Effect.{WritesAtMost}
 use Rattle.gd_space.proofs.Fits.{bounds}
 use Rattle.gd_vault.specs.Views.{View}
 use Rattle.gd_split.specs.SplitLaws.{half_of, doubled}
-use Rattle.gd_grow.specs.Growth.{IsWider, IsWide, DivisionWrites}
+use Rattle.gd_grow.specs.Growth.{IsWider, IsWide, DivisionWrites, run_size}
 
 -- another end of space
 pub header_grown : (h : Header) (n : ℕ) → IsHeader h → n ≤ 2 ^ 46 → IsHeader (record h { next_block = n })
@@ -24,7 +24,7 @@ wider_trans h h1 h2 one two = two ∙ ap (λ (k : Header). record k { dir = h2.d
 -- what a division writes, by its two parts
 pub division_writes :
     (u v w : View) (h h1 h2 : Header) (bits : ℕ) → IsHeader h → IsWide bits h h1 → h2.dir_bits ≡ h1.dir_bits
-    → WritesAtMost (2 * h.block + 2 * (dir_size_of h1.dir_bits - dir_size_of h.dir_bits)) u v → WritesAtMost (3 * h1.block + 8 * half_of h1 bits) v w → DivisionWrites h h2 bits u w
+    → WritesAtMost (h.block + 32 + 2 * (dir_size_of h1.dir_bits - dir_size_of h.dir_bits)) u v → WritesAtMost (2 * h1.block + (h1.block / 2 + 16) + 8 * half_of h1 bits) v w → DivisionWrites h h2 bits u w
 division_writes u v w h h1 h2 bits is wide same one two =
     let block = ap (λ (k : Header). k.block) wide.head in
     let a = one.bytes in
@@ -37,16 +37,19 @@ division_writes u v w h h1 h2 bits is wide same one two =
       clones = two.clones ∙ one.clones;
     }
 
+-- and what one that fails has written
 pub division_amount :
-    (u v w : View) (h h1 : Header) (bits : ℕ) → IsWide bits h h1
-    → WritesAtMost (2 * h.block + 2 * dir_size_of h.dir_bits) u v → WritesAtMost (3 * h1.block + 8 * half_of h1 bits) v w → WritesAtMost (5 * h.block + 4 * dir_size_of h.dir_bits) u w
-division_amount u v w h h1 bits wide one two =
+    (u v w : View) (h h1 : Header) (bits : ℕ) → IsHeader h → IsWide bits h h1
+    → WritesAtMost (h.block + 32 + 2 * dir_size_of h.dir_bits) u v → WritesAtMost (2 * h1.block + (h1.block / 2 + 16) + 8 * half_of h1 bits) v w → WritesAtMost (4 * h.block + 2 * dir_size_of h.dir_bits + run_size h bits) u w
+division_amount u v w h h1 bits is wide one two =
     let block = ap (λ (k : Header). k.block) wide.head in
     let a = one.bytes in
     let b = two.bytes in
-    let half = wide.half in
+    let run = wide.run in
+    let some = pow_pos (h.dir_bits - bits) in
+    let least = (bounds h is).least in
     record {
-      bytes = omega (arith, block, a, b, half);
+      bytes = omega (arith, block, a, b, run, some, least);
       clones = two.clones ∙ one.clones;
     }
 

@@ -15,8 +15,8 @@ use Rattle.gd_space.proofs.Dones.{tells_none}
 use Rattle.gd_space.proofs.Fits.{bounds}
 use Rattle.gd_vault.specs.Content.{File, Content}
 use Rattle.gd_vault.specs.Views.{View, HasFile, IsAt, content_of}
-use Rattle.gd_vault.specs.Frame.{Within, OneFile, NoName}
-use Rattle.gd_vault.proofs.Within.{within_refl, within_trans}
+use Rattle.gd_vault.specs.Streams.{OnlyWrites}
+use Rattle.gd_vault.proofs.Writes.{writes_refl, writes_trans}
 use Rattle.gd_split.specs.Held.{Holds, IsBucketOf, HasBucket}
 use Rattle.gd_split.specs.Steps.{Steps}
 use Rattle.gd_split.specs.Turns.{Turns}
@@ -39,11 +39,11 @@ pub record IsOnWay (u v : View) (f : ℕ) (h h' : Header) (s s' : HeldSpace) (ha
   pub first : length one.slots ≡ h.elems
   pub second : length two.slots ≡ h.elems
   pub few : count (is_close hash) b'.slots < h.elems
-  pub frame : Within (OneFile f) NoName u v
+  pub frame : OnlyWrites f u v
   pub least : b.bits ≤ b'.bits
   pub most : b'.bits ≤ max 24 b.bits
   pub growth : h'.next_block + 2 * dir_size_of h.dir_bits ≤ h.next_block + 6 * (h.block * (b'.bits - b.bits)) + 2 * dir_size_of h'.dir_bits
-  pub wrote : v.bytes_written + run_size h' b'.bits + 2 * dir_size_of h.dir_bits ≤ u.bytes_written + run_size h b.bits + 6 * (h.block * (b'.bits - b.bits)) + 2 * dir_size_of h'.dir_bits
+  pub wrote : v.bytes_written + run_size h' b'.bits + 2 * dir_size_of h.dir_bits ≤ u.bytes_written + run_size h b.bits + 4 * (h.block * (b'.bits - b.bits)) + 2 * dir_size_of h'.dir_bits
   pub clones : v.clones ≡ u.clones
   pub grown : Turns u v f (λ xs ys. IsGrown xs ys h' s'.table hash at b')
 
@@ -64,7 +64,7 @@ way_begins v f h s hash at b one two has is fields fits elems first second few o
   first = first;
   second = second;
   few = few;
-  frame = within_refl v;
+  frame = writes_refl v;
   least = omega arith;
   most = omega arith;
   growth = omega arith;
@@ -89,7 +89,7 @@ pub record IsRound (v w : View) (f : ℕ) (h h' : Header) (s s' : HeldSpace) (ha
   pub first : length one.slots ≡ h.elems
   pub second : length two.slots ≡ h.elems
   pub few : count (is_close hash) b'.slots < h.elems
-  pub frame : Within (OneFile f) NoName v w
+  pub frame : OnlyWrites f v w
   pub one_more : b'.bits ≡ b.bits + 1
   pub most : b'.bits ≤ 24
   pub writes : DivisionWrites h h' b.bits v w
@@ -138,7 +138,7 @@ module _ (u v : View) (f : ℕ) (h h' : Header) (s s' : HeldSpace) (hash at : �
   -- the file now
   now : HasFile u f → (d : Content) (y : File) → content_of v.told ≡ Some d → d.files f ≡ Some y → (old : List ℕ) × IsGrown old y.bytes h' s'.table hash at b'
   now has d y told there =
-      let old = told_before u v d way.frame told in
+      let old = told_before u v d way.frame.within told in
       let x = has old.0 old.1 in
       let t = way.grown old.0 x.0 old.1 x.1 in
       let same : t.content ≡ d = (let e = sym t.told ∙ told in cc (e)) in
@@ -162,7 +162,7 @@ module _ (u v : View) (f : ℕ) (h h' : Header) (s s' : HeldSpace) (hash at : �
       absurd (let no : None ≡ Some t.content = e in cc (no)))
 
   -- what is written at most, where one more call writes so much
-  pub wrote_most : (w : View) (more : ℕ) → WritesAtMost more v w → WritesAtMost (144 * h.block + 2 * dir_size_of h'.dir_bits + more) u w
+  pub wrote_most : (w : View) (more : ℕ) → WritesAtMost more v w → WritesAtMost (96 * h.block + 2 * dir_size_of h'.dir_bits + more) u w
   wrote_most w more writes =
       let a = way.wrote in
       let r = rounds_most in
@@ -170,13 +170,15 @@ module _ (u v : View) (f : ℕ) (h h' : Header) (s s' : HeldSpace) (hash at : �
       let m = writes.bytes in
       record { bytes = omega (arith, a, r, q, m); clones = writes.clones ∙ way.clones }
 
-  pub wrote_failing : (w : View) → WritesAtMost (5 * h'.block + 4 * dir_size_of h'.dir_bits) v w → WritesAtMost (149 * h.block + 2 ^ 30) u w
+  -- and where one more round fails
+  pub wrote_failing : (w : View) → WritesAtMost (4 * h'.block + 2 * dir_size_of h'.dir_bits + run_size h' b'.bits) v w → WritesAtMost (100 * h.block + 4 * dir_size_of h'.dir_bits) u w
   wrote_failing w writes =
-      let a = wrote_most w (5 * h'.block + 4 * dir_size_of h'.dir_bits) writes in
-      let m = a.bytes in
+      let a = way.wrote in
+      let r = rounds_most in
+      let q : 2 ^ (h.dir_bits - b.bits) ≤ 2 ^ h.dir_bits = pow-le-pow_right {n = 2} (omega arith) {i = h.dir_bits - b.bits} {j = h.dir_bits} (omega arith) in
+      let m = writes.bytes in
       let e = block_same in
-      let d = dir_small in
-      record { bytes = omega (arith, m, e, d); clones = a.clones }
+      record { bytes = omega (arith, a, r, q, m, e); clones = writes.clones ∙ way.clones }
 
 -- ---- one round more
 
@@ -208,7 +210,7 @@ way_goes_on u v w f h h1 h2 s s1 s2 hash at at' b b1 b2 one two one' two' way ro
       first = round.first ∙ elems;
       second = round.second ∙ elems;
       few = rw (← elems) round.few;
-      frame = within_trans way.frame round.frame;
+      frame = writes_trans way.frame round.frame;
       least = omega (arith, least, more);
       most = omega (arith, most);
       growth = omega (arith, growth, grows, block, times);

@@ -72,7 +72,7 @@ pub record IsDivided (h h' : Header) : Type 0 where
   pub head : IsWider h h'
   pub growth : h'.next_block + 2 * dir_size_of h.dir_bits ≤ h.next_block + 6 * h.block + 2 * dir_size_of h'.dir_bits
 
--- what a division of a bucket writes: of its run one half, the directories that were made, and six blocks at most
+-- what a division of a bucket writes: of its run one half, the directories that were made, and four blocks at most
 pub record DivisionWrites (h h' : Header) (bits : ℕ) (old new : View) : Type 0 where
-  pub bytes : new.bytes_written + run_size h' (bits + 1) + 2 * dir_size_of h.dir_bits ≤ old.bytes_written + run_size h bits + 6 * h.block + 2 * dir_size_of h'.dir_bits
+  pub bytes : new.bytes_written + run_size h' (bits + 1) + 2 * dir_size_of h.dir_bits ≤ old.bytes_written + run_size h bits + 4 * h.block + 2 * dir_size_of h'.dir_bits
   pub clones : new.clones ≡ old.clones

@@ -11,8 +11,8 @@ ghost use Rattle.gd_split.specs.Halves.{AreHalves, IsEmptyHalf};
 ghost use Rattle.gd_split.specs.Steps.{Steps, IsNext};
 ghost use Rattle.gd_split.specs.declared.errors.SplitError.TheVariants.{VaultFault};
 ghost use Rattle.gd_vault.specs.Views.{HasFile};
-ghost use Rattle.gd_vault.specs.Frame.{Within, OneFile, NoName};
-ghost use Rattle.gd_grow.specs.Growth.{IsDivided, DivisionWrites};
+ghost use Rattle.gd_vault.specs.Streams.{OnlyWrites};
+ghost use Rattle.gd_grow.specs.Growth.{IsDivided, DivisionWrites, run_size};
 
 use crate::widening::widen;
 use gd_format::Header;
@@ -23,7 +23,7 @@ use gd_vault::{FileId, Vault};
 
 /// Divides a bucket, which stands at `at`, between `first` and `second`, two empty buckets with one bit more. Doubles the
 /// directory before, where it has no more bits than the bucket. Answers the address of the second.
-#[tactic(auto, using(gd_vault::proofs::Within::within))]
+#[tactic(auto, using(gd_vault::proofs::Writes::writes))]
 pub fn divide<V: Vault>(
     vault: &mut V,
     f: FileId,
@@ -63,8 +63,8 @@ pub fn divide<V: Vault>(
     ensures same_block { space.new.block ≡ space.old.block }
     ensures same_room { space.new.table.room ≡ space.old.table.room }
     ensures there { HasFile (V.view_of vault.new) f.0 }
-    ensures frame { Within (OneFile f.0) NoName (V.view_of vault.old) (V.view_of vault.new) }
-    ensures amount { WritesAtMost (5 * header.old.block + 4 * dir_size_of header.old.dir_bits) (V.view_of vault.old) (V.view_of vault.new) }
+    ensures frame { OnlyWrites f.0 (V.view_of vault.old) (V.view_of vault.new) }
+    ensures amount { WritesAtMost (4 * header.old.block + 2 * dir_size_of header.old.dir_bits + run_size header.old bucket.now.bits) (V.view_of vault.old) (V.view_of vault.new) }
     ensures little { OnOk result (DivisionWrites header.old header.new bucket.now.bits (V.view_of vault.old) (V.view_of vault.new)) }
     ensures fault { IfErr result (λ e. e ≡ VaultFault → Rose (V.view_of vault.old).faults (V.view_of vault.new).faults) }
     ensures told { IfErr result (λ e. e ≢ VaultFault → TellsNone (V.view_of vault.old)) }

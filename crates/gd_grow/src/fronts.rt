@@ -9,7 +9,7 @@ ghost use Rattle.gd_space.specs.Effect.{WritesAtMost};
 ghost use Rattle.gd_split.specs.Held.{Holds};
 ghost use Rattle.gd_split.specs.declared.errors.SplitError.TheVariants.{VaultFault};
 ghost use Rattle.gd_vault.specs.Views.{HasFile};
-ghost use Rattle.gd_vault.specs.Frame.{Within, OneFile, NoName};
+ghost use Rattle.gd_vault.specs.Streams.{OnlyWrites};
 ghost use Rattle.gd_grow.specs.Growth.{Closes};
 
 use gd_format::Header;
@@ -19,7 +19,7 @@ use gd_split::SplitError;
 use gd_vault::{FileId, Vault};
 
 /// Writes the header's block with its table, and nothing else. Then the file by itself is sound.
-#[tactic(auto, using(gd_vault::proofs::Within::within))]
+#[tactic(auto, using(gd_vault::proofs::Writes::writes))]
 pub fn write_front<V: Vault>(
     vault: &mut V,
     f: FileId,
@@ -36,7 +36,7 @@ pub fn write_front<V: Vault>(
     requires holds { Holds (V.view_of vault.old) f.0 header.now space.now.table.next_block space.now.table.extents [] }
     ensures closes { OnOk result (Closes (V.view_of vault.old) (V.view_of vault.new) f.0 header.now space.now.table) }
     ensures there { HasFile (V.view_of vault.new) f.0 }
-    ensures frame { Within (OneFile f.0) NoName (V.view_of vault.old) (V.view_of vault.new) }
+    ensures frame { OnlyWrites f.0 (V.view_of vault.old) (V.view_of vault.new) }
     ensures amount { WritesAtMost header.now.block (V.view_of vault.old) (V.view_of vault.new) }
     ensures error { IfErr result (λ e. e ≡ VaultFault) }
     ensures fault { OnErr result (Rose (V.view_of vault.old).faults (V.view_of vault.new).faults) }

@@ -15,7 +15,7 @@ ghost use Rattle.gd_split.specs.Held.{HasBucket};
 ghost use Rattle.gd_split.specs.Turns.{Turns};
 ghost use Rattle.gd_vault.specs.Content.{File};
 ghost use Rattle.gd_vault.specs.Views.{HasFile, IsAt};
-ghost use Rattle.gd_vault.specs.Frame.{Within, OneFile, NoName};
+ghost use Rattle.gd_vault.specs.Streams.{OnlyWrites};
 ghost use Rattle.gd_grow.specs.Growth.{IsGrown, IsRoomMade, IsWider};
 ghost use Rattle.gd_grow.specs.Refusals.{is_growth_error};
 
@@ -29,7 +29,7 @@ use gd_space::Space;
 use gd_vault::{FileId, Vault};
 
 // Splits while the bucket of a hash is full. The header's block is not written.
-#[tactic(auto, using(gd_vault::proofs::Within::within))]
+#[tactic(auto, using(gd_vault::proofs::Writes::writes))]
 fn grow<V: Vault>(
     vault: &mut V,
     f: FileId,
@@ -67,9 +67,9 @@ fn grow<V: Vault>(
     ensures same_room { space.new.table.room ≡ space.old.table.room }
     ensures elems { length bucket.new.slots ≡ header.old.elems }
     ensures there { HasFile (V.view_of vault.new) f.0 }
-    ensures frame { Within (OneFile f.0) NoName (V.view_of vault.old) (V.view_of vault.new) }
-    ensures amount { WritesAtMost (149 * header.old.block + 2 ^ 30) (V.view_of vault.old) (V.view_of vault.new) }
-    ensures little { OnOk result (WritesAtMost (144 * header.old.block + 2 * dir_size_of header.new.dir_bits) (V.view_of vault.old) (V.view_of vault.new)) }
+    ensures frame { OnlyWrites f.0 (V.view_of vault.old) (V.view_of vault.new) }
+    ensures amount { WritesAtMost (100 * header.old.block + 4 * dir_size_of header.new.dir_bits) (V.view_of vault.old) (V.view_of vault.new) }
+    ensures little { OnOk result (WritesAtMost (96 * header.old.block + 2 * dir_size_of header.new.dir_bits) (V.view_of vault.old) (V.view_of vault.new)) }
     ensures fault { IfErr result (λ e. e ≡ VaultFault → Rose (V.view_of vault.old).faults (V.view_of vault.new).faults) }
     ensures told { IfErr result (λ e. e ≢ VaultFault → TellsNone (V.view_of vault.old)) }
     ensures which { IfErr result (λ e. is_growth_error e ≡ true) }
@@ -89,7 +89,7 @@ fn grow<V: Vault>(
 /// `first` and `second` have as many slots as `bucket`, whatever they hold, and are left with any. No memory is taken. The
 /// caller has seen that not all slots of the bucket have hashes with the first 24 bits of the hash. `BadAvail`,
 /// `BadDirEntry` and `BadBucket` come only over a vault that does not tell its content.
-#[tactic(auto, using(gd_vault::proofs::Within::within))]
+#[tactic(auto, using(gd_vault::proofs::Writes::writes))]
 pub fn make_room<V: Vault>(
     vault: &mut V,
     f: FileId,
@@ -130,9 +130,9 @@ pub fn make_room<V: Vault>(
     ensures same_room { space.new.table.room ≡ space.old.table.room }
     ensures elems { length bucket.new.slots ≡ header.new.elems }
     ensures there { HasFile (V.view_of vault.new) f.0 }
-    ensures frame { Within (OneFile f.0) NoName (V.view_of vault.old) (V.view_of vault.new) }
-    ensures amount { WritesAtMost (150 * header.old.block + 2 ^ 30) (V.view_of vault.old) (V.view_of vault.new) }
-    ensures little { OnOk result (WritesAtMost (145 * header.old.block + 2 * dir_size_of header.new.dir_bits) (V.view_of vault.old) (V.view_of vault.new)) }
+    ensures frame { OnlyWrites f.0 (V.view_of vault.old) (V.view_of vault.new) }
+    ensures amount { WritesAtMost (100 * header.old.block + 4 * dir_size_of header.new.dir_bits) (V.view_of vault.old) (V.view_of vault.new) }
+    ensures little { OnOk result (WritesAtMost (97 * header.old.block + 2 * dir_size_of header.new.dir_bits) (V.view_of vault.old) (V.view_of vault.new)) }
     ensures fault { IfErr result (λ e. e ≡ VaultFault → Rose (V.view_of vault.old).faults (V.view_of vault.new).faults) }
     ensures told { IfErr result (λ e. e ≢ VaultFault → TellsNone (V.view_of vault.old)) }
     ensures which { IfErr result (λ e. is_growth_error e ≡ true) }

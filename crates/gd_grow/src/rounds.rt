@@ -12,8 +12,8 @@ ghost use Rattle.gd_space.specs.Effect.{WritesAtMost, TellsNone};
 ghost use Rattle.gd_split.specs.Held.{Holds, IsBucketOf, HasBucket};
 ghost use Rattle.gd_split.specs.Steps.{Steps};
 ghost use Rattle.gd_vault.specs.Views.{HasFile};
-ghost use Rattle.gd_vault.specs.Frame.{Within, OneFile, NoName};
-ghost use Rattle.gd_grow.specs.Growth.{IsDivided, DivisionWrites};
+ghost use Rattle.gd_vault.specs.Streams.{OnlyWrites};
+ghost use Rattle.gd_grow.specs.Growth.{IsDivided, DivisionWrites, run_size};
 ghost use Rattle.gd_grow.specs.Refusals.{is_growth_error};
 
 use crate::dividing::divide;
@@ -28,7 +28,7 @@ use gd_vault::{FileId, Vault};
 ///
 /// A full bucket without a bit to spare, or with more bits than the directory, is answered by `BadBucket`: none comes where
 /// the content is told. After an error the header is the one that it was.
-#[tactic(auto, using(gd_vault::proofs::Within::within))]
+#[tactic(auto, using(gd_vault::proofs::Writes::writes))]
 pub fn split_round<V: Vault>(
     vault: &mut V,
     f: FileId,
@@ -72,8 +72,8 @@ pub fn split_round<V: Vault>(
     ensures first { OnOk result (length first.new.slots ≡ header.old.elems) }
     ensures second { OnOk result (length second.new.slots ≡ header.old.elems) }
     ensures there { HasFile (V.view_of vault.new) f.0 }
-    ensures frame { Within (OneFile f.0) NoName (V.view_of vault.old) (V.view_of vault.new) }
-    ensures amount { WritesAtMost (5 * header.old.block + 4 * dir_size_of header.old.dir_bits) (V.view_of vault.old) (V.view_of vault.new) }
+    ensures frame { OnlyWrites f.0 (V.view_of vault.old) (V.view_of vault.new) }
+    ensures amount { WritesAtMost (4 * header.old.block + 2 * dir_size_of header.old.dir_bits + run_size header.old bucket.old.bits) (V.view_of vault.old) (V.view_of vault.new) }
     ensures little { OnOk result (DivisionWrites header.old header.new bucket.old.bits (V.view_of vault.old) (V.view_of vault.new)) }
     ensures fault { IfErr result (λ e. e ≡ VaultFault → Rose (V.view_of vault.old).faults (V.view_of vault.new).faults) }
     ensures told { IfErr result (λ e. e ≢ VaultFault → TellsNone (V.view_of vault.old)) }

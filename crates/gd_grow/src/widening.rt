@@ -10,7 +10,7 @@ ghost use Rattle.gd_split.specs.Held.{Holds};
 ghost use Rattle.gd_split.specs.Steps.{Steps, KeepsBuckets};
 ghost use Rattle.gd_split.specs.declared.errors.SplitError.TheVariants.{VaultFault};
 ghost use Rattle.gd_vault.specs.Views.{HasFile};
-ghost use Rattle.gd_vault.specs.Frame.{Within, OneFile, NoName};
+ghost use Rattle.gd_vault.specs.Streams.{OnlyWrites};
 ghost use Rattle.gd_grow.specs.Growth.{IsWide};
 
 use gd_format::Header;
@@ -20,7 +20,7 @@ use gd_split::{SplitError, double};
 use gd_vault::{FileId, Vault};
 
 /// Doubles the directory where it has no more bits than a bucket. The space goes by the free extents of `loose`.
-#[tactic(auto, using(gd_vault::proofs::Within::within))]
+#[tactic(auto, using(gd_vault::proofs::Writes::writes))]
 pub fn widen<V: Vault>(
     vault: &mut V,
     f: FileId,
@@ -50,9 +50,9 @@ pub fn widen<V: Vault>(
     ensures same_block { space.new.block ≡ space.old.block }
     ensures same_room { space.new.table.room ≡ space.old.table.room }
     ensures there { HasFile (V.view_of vault.new) f.0 }
-    ensures frame { Within (OneFile f.0) NoName (V.view_of vault.old) (V.view_of vault.new) }
-    ensures amount { WritesAtMost (2 * header.old.block + 2 * dir_size_of header.old.dir_bits) (V.view_of vault.old) (V.view_of vault.new) }
-    ensures little { OnOk result (WritesAtMost (2 * header.old.block + 2 * (dir_size_of header.new.dir_bits - dir_size_of header.old.dir_bits)) (V.view_of vault.old) (V.view_of vault.new)) }
+    ensures frame { OnlyWrites f.0 (V.view_of vault.old) (V.view_of vault.new) }
+    ensures amount { WritesAtMost (header.old.block + 32 + 2 * dir_size_of header.old.dir_bits) (V.view_of vault.old) (V.view_of vault.new) }
+    ensures little { OnOk result (WritesAtMost (header.old.block + 32 + 2 * (dir_size_of header.new.dir_bits - dir_size_of header.old.dir_bits)) (V.view_of vault.old) (V.view_of vault.new)) }
     ensures fault { IfErr result (λ e. e ≡ VaultFault → Rose (V.view_of vault.old).faults (V.view_of vault.new).faults) }
     ensures told { IfErr result (λ e. e ≢ VaultFault → TellsNone (V.view_of vault.old)) }
 {

@@ -3,12 +3,12 @@ use Rattle.std.specs.Prelude.{ℕ, ◌*◌, ◌≤◌, List}
 use Rattle.gd_space.specs.Effect.{WritesAtMost}
 use Rattle.gd_split.specs.Turns.{Turns}
 use Rattle.gd_vault.specs.Views.{View, HasFile}
-use Rattle.gd_vault.specs.Frame.{Within, OneFile, NoName}
+use Rattle.gd_vault.specs.Streams.{OnlyWrites}
 
 -- so many entries are done, with so many bytes each, and the file has turned so
 pub record IsAlong (old now : View) (f count done size : ℕ) (R : List ℕ → List ℕ → Type 0) : Type 0 where
   pub low : done ≤ count
   pub turned : Turns old now f R
   pub there : HasFile now f
-  pub frame : Within (OneFile f) NoName old now
+  pub frame : OnlyWrites f old now
   pub amount : WritesAtMost (size * done) old now

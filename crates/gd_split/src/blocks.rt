@@ -9,14 +9,14 @@ ghost use Rattle.gd_split.specs.Halves.{Spells};
 ghost use Rattle.gd_split.specs.declared.errors.SplitError.TheVariants.{VaultFault};
 ghost use Rattle.gd_vault.specs.Content.{File};
 ghost use Rattle.gd_vault.specs.Views.{HasFile, IsAt};
-ghost use Rattle.gd_vault.specs.Frame.{Within, OneFile, NoName};
+ghost use Rattle.gd_vault.specs.Streams.{OnlyWrites};
 
 use crate::errors::SplitError;
 use gd_layout::{Bucket, Native};
 use gd_vault::{FileId, Vault};
 
 /// Writes bytes at a place.
-#[tactic(auto, using(gd_vault::proofs::Within::within))]
+#[tactic(auto, using(gd_vault::proofs::Writes::writes))]
 pub fn put_bytes<V: Vault>(
     vault: &mut V,
     f: FileId,
@@ -27,7 +27,7 @@ pub fn put_bytes<V: Vault>(
     requires place { IsAt (V.view_of vault.old) (λ c. (x : File) → c.files f.0 ≡ Some x → at ≤ max (length x.bytes) (2 ^ 47)) }
     ensures wrote { OnOk result (Turns (V.view_of vault.old) (V.view_of vault.new) f.0 (λ xs ys. ys ≡ written xs at bytes.now)) }
     ensures there { HasFile (V.view_of vault.new) f.0 }
-    ensures frame { Within (OneFile f.0) NoName (V.view_of vault.old) (V.view_of vault.new) }
+    ensures frame { OnlyWrites f.0 (V.view_of vault.old) (V.view_of vault.new) }
     ensures amount { WritesAtMost (length bytes.now) (V.view_of vault.old) (V.view_of vault.new) }
     ensures error { IfErr result (λ e. e ≡ VaultFault) }
     ensures fault { OnErr result (Rose (V.view_of vault.old).faults (V.view_of vault.new).faults) }
@@ -52,7 +52,7 @@ pub fn put_bucket<V: Vault>(
     ensures size { length buf.new ≡ length buf.old }
     ensures wrote { OnOk result (Turns (V.view_of vault.old) (V.view_of vault.new) f.0 (λ xs ys. ys ≡ written xs at buf.new)) }
     ensures there { HasFile (V.view_of vault.new) f.0 }
-    ensures frame { Within (OneFile f.0) NoName (V.view_of vault.old) (V.view_of vault.new) }
+    ensures frame { OnlyWrites f.0 (V.view_of vault.old) (V.view_of vault.new) }
     ensures amount { WritesAtMost (length buf.old) (V.view_of vault.old) (V.view_of vault.new) }
     ensures error { IfErr result (λ e. e ≡ VaultFault) }
     ensures fault { OnErr result (Rose (V.view_of vault.old).faults (V.view_of vault.new).faults) }

@@ -11,7 +11,7 @@ ghost use Rattle.gd_split.specs.Places.{IsCopyPlace, ReadsEntries};
 ghost use Rattle.gd_split.specs.declared.errors.SplitError.TheVariants.{VaultFault, BadAvail};
 ghost use Rattle.gd_vault.specs.Content.{File};
 ghost use Rattle.gd_vault.specs.Views.{HasFile, IsAt, OnlyAsks};
-ghost use Rattle.gd_vault.specs.Frame.{Within, OneFile, NoName};
+ghost use Rattle.gd_vault.specs.Streams.{OnlyWrites};
 
 use crate::blocks::put_bytes;
 use crate::errors::SplitError;
@@ -19,7 +19,7 @@ use crate::pages::{double_entries, portion};
 use gd_vault::{FileId, Vault};
 
 // Reads entries from a place on, and answers whether they are all there.
-#[tactic(auto, using(gd_vault::proofs::Within::within))]
+#[tactic(auto, using(gd_vault::proofs::Writes::writes))]
 fn read_entries<V: Vault>(
     vault: &mut V,
     f: FileId,
@@ -40,7 +40,7 @@ fn read_entries<V: Vault>(
 }
 
 /// Writes each of the first `count` entries of a directory twice at another place.
-#[tactic(auto, using(gd_vault::proofs::Within::within))]
+#[tactic(auto, using(gd_vault::proofs::Writes::writes))]
 pub fn copy_dir<V: Vault>(
     vault: &mut V,
     f: FileId,
@@ -55,7 +55,7 @@ pub fn copy_dir<V: Vault>(
     requires places { IsAt (V.view_of vault.old) (λ c. (x : File) → c.files f.0 ≡ Some x → IsCopyPlace x.bytes from to count) }
     ensures doubled { OnOk result (Turns (V.view_of vault.old) (V.view_of vault.new) f.0 (IsDoubled from to count)) }
     ensures there { HasFile (V.view_of vault.new) f.0 }
-    ensures frame { Within (OneFile f.0) NoName (V.view_of vault.old) (V.view_of vault.new) }
+    ensures frame { OnlyWrites f.0 (V.view_of vault.old) (V.view_of vault.new) }
     ensures amount { WritesAtMost (16 * count) (V.view_of vault.old) (V.view_of vault.new) }
     ensures fault { IfErr result (λ e. e ≡ VaultFault → Rose (V.view_of vault.old).faults (V.view_of vault.new).faults) }
     ensures space { IfErr result (λ e. (a : ℕ) → e ≢ BadAvail a) }

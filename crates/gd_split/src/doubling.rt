@@ -12,7 +12,7 @@ ghost use Rattle.gd_split.specs.SplitLaws.{doubled};
 ghost use Rattle.gd_split.specs.Steps.{Steps, KeepsBuckets};
 ghost use Rattle.gd_split.specs.declared.errors.SplitError.TheVariants.{VaultFault};
 ghost use Rattle.gd_vault.specs.Views.{HasFile};
-ghost use Rattle.gd_vault.specs.Frame.{Within, OneFile, NoName};
+ghost use Rattle.gd_vault.specs.Streams.{OnlyWrites};
 
 use crate::copying::copy_dir;
 use crate::errors::SplitError;
@@ -44,7 +44,7 @@ fn entry_count(bits: u32) -> u64
 /// Doubles the directory: each entry stands twice in a new place, and the old place is given back.
 ///
 /// The space goes by the free extents of `loose`, a bucket that has no place yet. The header's block is not written.
-#[tactic(auto, using(gd_vault::proofs::Within::within))]
+#[tactic(auto, using(gd_vault::proofs::Writes::writes))]
 pub fn double<V: Vault>(
     vault: &mut V,
     f: FileId,
@@ -73,8 +73,8 @@ pub fn double<V: Vault>(
     ensures same_block { space.new.block ≡ space.old.block }
     ensures same_room { space.new.table.room ≡ space.old.table.room }
     ensures there { HasFile (V.view_of vault.new) f.0 }
-    ensures frame { Within (OneFile f.0) NoName (V.view_of vault.old) (V.view_of vault.new) }
-    ensures amount { WritesAtMost (2 * header.old.block + 2 * dir_size_of header.old.dir_bits) (V.view_of vault.old) (V.view_of vault.new) }
+    ensures frame { OnlyWrites f.0 (V.view_of vault.old) (V.view_of vault.new) }
+    ensures amount { WritesAtMost (header.old.block + 32 + 2 * dir_size_of header.old.dir_bits) (V.view_of vault.old) (V.view_of vault.new) }
     ensures fault { IfErr result (λ e. e ≡ VaultFault → Rose (V.view_of vault.old).faults (V.view_of vault.new).faults) }
     ensures told { IfErr result (λ e. e ≢ VaultFault → TellsNone (V.view_of vault.old)) }
 {

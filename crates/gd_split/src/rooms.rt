@@ -1,6 +1,6 @@
 //! Room that is taken and given by the extents of the table, and of a bucket that has no place yet.
 
-ghost use Rattle.std.specs.Prelude.{◌≡◌, ◌≢◌, ◌+◌, ◌*◌, ◌^◌, ◌<◌, ◌≤◌, ℕ, [], ◌∷◌, length, IfOk, IfErr, OnOk, OnErr};
+ghost use Rattle.std.specs.Prelude.{◌≡◌, ◌≢◌, ◌+◌, ◌*◌, ◌/◌, ◌^◌, ◌<◌, ◌≤◌, ℕ, [], ◌∷◌, length, IfOk, IfErr, OnOk, OnErr};
 ghost use Rattle.gd_base.specs.Causes.{Rose};
 ghost use Rattle.gd_format.specs.Headers.{IsHeader};
 ghost use Rattle.gd_format.specs.Sound.{extent};
@@ -8,7 +8,7 @@ ghost use Rattle.gd_space.specs.Calls.{HasFreeSide, Done, Gave};
 ghost use Rattle.gd_space.specs.Effect.{WritesAtMost, TellsNone};
 ghost use Rattle.gd_split.specs.declared.errors.SplitError.TheVariants.{VaultFault, BadAvail, BadDirEntry};
 ghost use Rattle.gd_vault.specs.Views.{HasFile};
-ghost use Rattle.gd_vault.specs.Frame.{Within, OneFile, NoName};
+ghost use Rattle.gd_vault.specs.Streams.{OnlyWrites};
 
 use crate::errors::SplitError;
 use gd_format::{Extent, Header};
@@ -43,8 +43,8 @@ pub fn take_room<V: Vault>(
     ensures same_block { space.new.block ≡ space.old.block }
     ensures same_room { space.new.table.room ≡ space.old.table.room }
     ensures there { HasFile (V.view_of vault.new) f.0 }
-    ensures frame { Within (OneFile f.0) NoName (V.view_of vault.old) (V.view_of vault.new) }
-    ensures amount { WritesAtMost header.old.block (V.view_of vault.old) (V.view_of vault.new) }
+    ensures frame { OnlyWrites f.0 (V.view_of vault.old) (V.view_of vault.new) }
+    ensures amount { WritesAtMost (header.old.block / 2 + 16) (V.view_of vault.old) (V.view_of vault.new) }
     ensures fault { IfErr result (λ e. e ≡ VaultFault → Rose (V.view_of vault.old).faults (V.view_of vault.new).faults) }
     ensures entry { IfErr result (λ e. (i : ℕ) → e ≢ BadDirEntry i) }
     ensures told { IfErr result (λ e. e ≢ VaultFault → TellsNone (V.view_of vault.old)) }
@@ -88,8 +88,8 @@ pub fn give_room<V: Vault>(
     ensures same_block { space.new.block ≡ space.old.block }
     ensures same_room { space.new.table.room ≡ space.old.table.room }
     ensures there { HasFile (V.view_of vault.new) f.0 }
-    ensures frame { Within (OneFile f.0) NoName (V.view_of vault.old) (V.view_of vault.new) }
-    ensures amount { WritesAtMost header.old.block (V.view_of vault.old) (V.view_of vault.new) }
+    ensures frame { OnlyWrites f.0 (V.view_of vault.old) (V.view_of vault.new) }
+    ensures amount { WritesAtMost (header.old.block / 2 + 16) (V.view_of vault.old) (V.view_of vault.new) }
     ensures error { IfErr result (λ e. e ≡ VaultFault) }
     ensures fault { OnErr result (Rose (V.view_of vault.old).faults (V.view_of vault.new).faults) }
 {

@@ -8,7 +8,7 @@ ghost use Rattle.gd_split.specs.Runs.{IsPointed};
 ghost use Rattle.gd_split.specs.declared.errors.SplitError.TheVariants.{VaultFault};
 ghost use Rattle.gd_vault.specs.Content.{File};
 ghost use Rattle.gd_vault.specs.Views.{HasFile, IsAt};
-ghost use Rattle.gd_vault.specs.Frame.{Within, OneFile, NoName};
+ghost use Rattle.gd_vault.specs.Streams.{OnlyWrites};
 
 use crate::blocks::put_bytes;
 use crate::errors::SplitError;
@@ -16,7 +16,7 @@ use crate::pages::{fill_page, portion};
 use gd_vault::{FileId, Vault};
 
 /// Writes one address into so many entries from a place on.
-#[tactic(auto, using(gd_vault::proofs::Within::within))]
+#[tactic(auto, using(gd_vault::proofs::Writes::writes))]
 pub fn point_run<V: Vault>(
     vault: &mut V,
     f: FileId,
@@ -31,7 +31,7 @@ pub fn point_run<V: Vault>(
     requires inside { IsAt (V.view_of vault.old) (λ c. (x : File) → c.files f.0 ≡ Some x → place + 8 * count ≤ length x.bytes) }
     ensures pointed { OnOk result (Turns (V.view_of vault.old) (V.view_of vault.new) f.0 (IsPointed place count address)) }
     ensures there { HasFile (V.view_of vault.new) f.0 }
-    ensures frame { Within (OneFile f.0) NoName (V.view_of vault.old) (V.view_of vault.new) }
+    ensures frame { OnlyWrites f.0 (V.view_of vault.old) (V.view_of vault.new) }
     ensures amount { WritesAtMost (8 * count) (V.view_of vault.old) (V.view_of vault.new) }
     ensures error { IfErr result (λ e. e ≡ VaultFault) }
     ensures fault { OnErr result (Rose (V.view_of vault.old).faults (V.view_of vault.new).faults) }

@@ -12,7 +12,7 @@ ghost use Rattle.gd_split.specs.SplitLaws.{half_of, half_start};
 ghost use Rattle.gd_split.specs.Steps.{Steps, IsNext};
 ghost use Rattle.gd_split.specs.declared.errors.SplitError.TheVariants.{VaultFault, BadDirEntry};
 ghost use Rattle.gd_vault.specs.Views.{HasFile};
-ghost use Rattle.gd_vault.specs.Frame.{Within, OneFile, NoName};
+ghost use Rattle.gd_vault.specs.Streams.{OnlyWrites};
 
 use crate::blocks::put_bucket;
 use crate::errors::SplitError;
@@ -50,7 +50,7 @@ fn start_of(header: &Header, hash: u32, bits: u32) -> u64
 ///
 /// `first` and `second` are empty buckets with one bit more. The free extents of `second` are loose ones, in no block yet:
 /// the space goes by them, and they stand in its block then. The header's block is not written: the caller does that.
-#[tactic(auto, using(gd_vault::proofs::Within::within))]
+#[tactic(auto, using(gd_vault::proofs::Writes::writes))]
 pub fn split_once<V: Vault>(
     vault: &mut V,
     f: FileId,
@@ -91,8 +91,8 @@ pub fn split_once<V: Vault>(
     ensures same_block { space.new.block ≡ space.old.block }
     ensures same_room { space.new.table.room ≡ space.old.table.room }
     ensures there { HasFile (V.view_of vault.new) f.0 }
-    ensures frame { Within (OneFile f.0) NoName (V.view_of vault.old) (V.view_of vault.new) }
-    ensures amount { WritesAtMost (3 * header.old.block + 8 * half_of header.old bucket.now.bits) (V.view_of vault.old) (V.view_of vault.new) }
+    ensures frame { OnlyWrites f.0 (V.view_of vault.old) (V.view_of vault.new) }
+    ensures amount { WritesAtMost (2 * header.old.block + (header.old.block / 2 + 16) + 8 * half_of header.old bucket.now.bits) (V.view_of vault.old) (V.view_of vault.new) }
     ensures fault { IfErr result (λ e. e ≡ VaultFault → Rose (V.view_of vault.old).faults (V.view_of vault.new).faults) }
     ensures entry { IfErr result (λ e. (i : ℕ) → e ≢ BadDirEntry i) }
     ensures told { IfErr result (λ e. e ≢ VaultFault → TellsNone (V.view_of vault.old)) }

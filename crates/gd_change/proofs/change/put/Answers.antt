@@ -30,7 +30,7 @@ place_record-requires-clause-side g c = λ k x told there.
     (b.0, b.1.side)
 
 pub finish-requires-clause-file : goal.finish-requires-clause-file
-finish-requires-clause-file g c = still_there (g.V.Vault.view_of c.args.vault.now) (g.V.Vault.view_of c.place_record.new.vault) c.args.f.0 c.in_ok-record.ensures.frame c.requires.file
+finish-requires-clause-file g c = still_there (g.V.Vault.view_of c.args.vault.now) (g.V.Vault.view_of c.place_record.new.vault) c.args.f.0 c.in_ok-record.ensures.frame.within c.requires.file
 
 pub finish-requires-clause-room : goal.finish-requires-clause-room
 finish-requires-clause-room g c =
@@ -41,7 +41,7 @@ finish-requires-clause-room g c =
 
 pub finish-requires-clause-side : goal.finish-requires-clause-side
 finish-requires-clause-side g c = λ k x told there.
-    let old = told_before (g.V.Vault.view_of c.args.vault.now) (g.V.Vault.view_of c.place_record.new.vault) k c.in_ok-record.ensures.frame told in
+    let old = told_before (g.V.Vault.view_of c.args.vault.now) (g.V.Vault.view_of c.place_record.new.vault) k c.in_ok-record.ensures.frame.within told in
     let file = c.requires.file old.0 old.1 in
     let o = c.requires.told old.0 file.0 old.1 file.1 in
     let b = open_blocks file.0.bytes c.args.header.now c.args.space.now.table c.args.at c.args.bucket.now c.args.key.now o.0 o.1 in
@@ -53,7 +53,7 @@ finish-requires-clause-side g c = λ k x told there.
 
 pub finish-requires-clause-place : goal.finish-requires-clause-place
 finish-requires-clause-place g c = λ k told x there.
-    let old = told_before (g.V.Vault.view_of c.args.vault.now) (g.V.Vault.view_of c.place_record.new.vault) k c.in_ok-record.ensures.frame told in
+    let old = told_before (g.V.Vault.view_of c.args.vault.now) (g.V.Vault.view_of c.place_record.new.vault) k c.in_ok-record.ensures.frame.within told in
     let file = c.requires.file old.0 old.1 in
     let o = c.requires.told old.0 file.0 old.1 file.1 in
     let place = open_place file.0.bytes c.args.header.now c.args.space.now.table c.args.at c.args.bucket.now c.args.key.now o.0 o.1 in

@@ -7,14 +7,15 @@ use Rattle.gd_space.proofs.Fits.{bounds}
 use Rattle.gd_change.specs.Steps.{SpellsBucket, SpellsHeader}
 use Rattle.gd_change.proofs.Files.{still_there, told_before, written_to}
 use Rattle.gd_change.proofs.Sizes.{slots_fit}
+use Rattle.gd_vault.proofs.Writes.{writes_trans}
 use Rattle.gd_change.proofs.last.finish.Goals as goal
 
 pub write_bucket-requires-clause-file : goal.write_bucket-requires-clause-file
-write_bucket-requires-clause-file g c = still_there (g.V.Vault.view_of c.args.vault.now) (g.V.Vault.view_of c.give_back.new.vault) c.args.f.0 c.in_ok-give_back.ensures.frame c.requires.file
+write_bucket-requires-clause-file g c = still_there (g.V.Vault.view_of c.args.vault.now) (g.V.Vault.view_of c.give_back.new.vault) c.args.f.0 c.in_ok-give_back.ensures.frame.within c.requires.file
 
 pub write_bucket-requires-clause-place : goal.write_bucket-requires-clause-place
 write_bucket-requires-clause-place g c = λ k told x there.
-    let old = told_before (g.V.Vault.view_of c.args.vault.now) (g.V.Vault.view_of c.give_back.new.vault) k c.in_ok-give_back.ensures.frame told in
+    let old = told_before (g.V.Vault.view_of c.args.vault.now) (g.V.Vault.view_of c.give_back.new.vault) k c.in_ok-give_back.ensures.frame.within told in
     let file = c.requires.file old.0 old.1 in
     let low = c.requires.place old.0 old.1 file.0 file.1 in
     omega (arith, low)
@@ -29,8 +30,8 @@ write_bucket-requires-clause-room g c =
 
 pub write_header-requires-clause-file : goal.write_header-requires-clause-file
 write_header-requires-clause-file g c =
-    still_there (g.V.Vault.view_of c.give_back.new.vault) (g.V.Vault.view_of c.write_bucket.new.vault) c.args.f.0 c.in_ok-write_bucket.ensures.frame
-    (still_there (g.V.Vault.view_of c.args.vault.now) (g.V.Vault.view_of c.give_back.new.vault) c.args.f.0 c.in_ok-give_back.ensures.frame c.requires.file)
+    still_there (g.V.Vault.view_of c.give_back.new.vault) (g.V.Vault.view_of c.write_bucket.new.vault) c.args.f.0 c.in_ok-write_bucket.ensures.frame.within
+    (still_there (g.V.Vault.view_of c.args.vault.now) (g.V.Vault.view_of c.give_back.new.vault) c.args.f.0 c.in_ok-give_back.ensures.frame.within c.requires.file)
 
 pub write_header-requires-clause-least : goal.write_header-requires-clause-least
 write_header-requires-clause-least g c =
@@ -67,3 +68,9 @@ returns-clause-done g c = λ k x blocks told there side may.
         header_is = subst (λ (t : Avail). SpellsHeader c.give_back.new.header t c.write_header.new.buf) c.table.ensures c.in_ok-write_header.ensures.spells;
       };
     }
+
+pub returns-in_err-write_header-clause-frame : goal.returns-in_err-write_header-clause-frame
+returns-in_err-write_header-clause-frame g c = writes_trans (writes_trans c.give_back.ensures.frame c.write_bucket.ensures.frame) c.write_header.ensures.frame
+
+pub returns-clause-frame : goal.returns-clause-frame
+returns-clause-frame g c = writes_trans (writes_trans c.give_back.ensures.frame c.write_bucket.ensures.frame) c.write_header.ensures.frame

@@ -3,14 +3,15 @@ use Rattle.gd_space.specs.Calls.{free_lists}
 use Rattle.gd_change.proofs.Files.{still_there, told_before}
 use Rattle.gd_change.proofs.Puts.{put_both}
 use Rattle.gd_change.proofs.Records.{record_put}
+use Rattle.gd_vault.proofs.Writes.{writes_trans}
 use Rattle.gd_change.proofs.record.place_record.Goals as goal
 
 pub put_bytes-requires-clause-file : goal.put_bytes-requires-clause-file
-put_bytes-requires-clause-file g c = still_there (g.V.Vault.view_of c.args.vault.now) (g.V.Vault.view_of c.take_room.new.vault) c.args.f.0 c.in_ok-place.ensures.frame c.requires.file
+put_bytes-requires-clause-file g c = still_there (g.V.Vault.view_of c.args.vault.now) (g.V.Vault.view_of c.take_room.new.vault) c.args.f.0 c.in_ok-place.ensures.frame.within c.requires.file
 
 pub put_bytes-requires-clause-place : goal.put_bytes-requires-clause-place
 put_bytes-requires-clause-place g c = λ k told x there.
-    let old = told_before (g.V.Vault.view_of c.args.vault.now) (g.V.Vault.view_of c.take_room.new.vault) k c.in_ok-place.ensures.frame told in
+    let old = told_before (g.V.Vault.view_of c.args.vault.now) (g.V.Vault.view_of c.take_room.new.vault) k c.in_ok-place.ensures.frame.within told in
     let file = c.requires.file old.0 old.1 in
     let ends = c.in_ok-place.ensures.inside old.0 old.1 file.0 file.1 in
     let below = c.in_ok-place.ensures.below in
@@ -18,13 +19,13 @@ put_bytes-requires-clause-place g c = λ k told x there.
 
 pub put_bytes-requires-2-clause-file : goal.put_bytes-requires-2-clause-file
 put_bytes-requires-2-clause-file g c =
-    still_there (g.V.Vault.view_of c.take_room.new.vault) (g.V.Vault.view_of c.put_bytes.new.vault) c.args.f.0 c.in_ok-put_bytes.ensures.frame
-    (still_there (g.V.Vault.view_of c.args.vault.now) (g.V.Vault.view_of c.take_room.new.vault) c.args.f.0 c.in_ok-place.ensures.frame c.requires.file)
+    still_there (g.V.Vault.view_of c.take_room.new.vault) (g.V.Vault.view_of c.put_bytes.new.vault) c.args.f.0 c.in_ok-put_bytes.ensures.frame.within
+    (still_there (g.V.Vault.view_of c.args.vault.now) (g.V.Vault.view_of c.take_room.new.vault) c.args.f.0 c.in_ok-place.ensures.frame.within c.requires.file)
 
 pub put_bytes-requires-2-clause-place : goal.put_bytes-requires-2-clause-place
 put_bytes-requires-2-clause-place g c = λ k told x there.
-    let mid = told_before (g.V.Vault.view_of c.take_room.new.vault) (g.V.Vault.view_of c.put_bytes.new.vault) k c.in_ok-put_bytes.ensures.frame told in
-    let old = told_before (g.V.Vault.view_of c.args.vault.now) (g.V.Vault.view_of c.take_room.new.vault) mid.0 c.in_ok-place.ensures.frame mid.1 in
+    let mid = told_before (g.V.Vault.view_of c.take_room.new.vault) (g.V.Vault.view_of c.put_bytes.new.vault) k c.in_ok-put_bytes.ensures.frame.within told in
+    let old = told_before (g.V.Vault.view_of c.args.vault.now) (g.V.Vault.view_of c.take_room.new.vault) mid.0 c.in_ok-place.ensures.frame.within mid.1 in
     let file = c.requires.file old.0 old.1 in
     let ends = c.in_ok-place.ensures.inside old.0 old.1 file.0 file.1 in
     let below = c.in_ok-place.ensures.below in
@@ -48,3 +49,9 @@ returns-clause-put g c = λ k x blocks told there side.
           (free_lists c.args.space.now.table.extents blocks c.args.bucket.now.free) (free_lists c.take_room.new.space.table.extents a.blocks c.take_room.new.bucket.free) c.in_ok-place.place (c.args.key.now ++ c.args.value.now) 32
           side (rw len a.change) whole (omega (arith, len, ends));
     }
+
+pub returns-in_err-put_bytes-2-clause-frame : goal.returns-in_err-put_bytes-2-clause-frame
+returns-in_err-put_bytes-2-clause-frame g c = writes_trans (writes_trans c.take_room.ensures.frame c.put_bytes.ensures.frame) c.put_bytes-2.ensures.frame
+
+pub returns-clause-frame : goal.returns-clause-frame
+returns-clause-frame g c = writes_trans (writes_trans c.take_room.ensures.frame c.put_bytes.ensures.frame) c.put_bytes-2.ensures.frame

@@ -20,24 +20,24 @@ pub split_once-requires-clause-holds : goal.split_once-requires-clause-holds
 split_once-requires-clause-holds g c =
     holds_after (g.V.Vault.view_of c.args.vault.now) (g.V.Vault.view_of c.widen.new.vault) c.args.f.0 c.args.header.now c.widen.new.header c.args.space.now.table.next_block c.widen.new.space.table.next_block c.args.space.now.table.extents c.args.second.now.free
     c.widen.new.space.table.extents c.widen.new.loose.free 64 (λ file. KeepsBuckets (g.V.Vault.view_of c.args.vault.now) c.args.f.0 c.args.header.now file c.widen.new.header)
-    c.in_ok-widen.ensures.frame c.requires.file (rw c.requires.second_none c.requires.holds) c.in_ok-widen.ensures.steps
+    c.in_ok-widen.ensures.frame.within c.requires.file (rw c.requires.second_none c.requires.holds) c.in_ok-widen.ensures.steps
 
 pub split_once-requires-clause-bucket : goal.split_once-requires-clause-bucket
 split_once-requires-clause-bucket g c = λ d y told there.
     let a = came (g.V.Vault.view_of c.args.vault.now) (g.V.Vault.view_of c.widen.new.vault) c.args.f.0 c.args.header.now c.widen.new.header c.args.space.now.table.next_block c.widen.new.space.table.next_block c.args.space.now.table.extents c.args.second.now.free
     c.widen.new.space.table.extents c.widen.new.loose.free 64 (λ file. KeepsBuckets (g.V.Vault.view_of c.args.vault.now) c.args.f.0 c.args.header.now file c.widen.new.header)
-    c.in_ok-widen.ensures.frame c.requires.file (rw c.requires.second_none c.requires.holds) c.in_ok-widen.ensures.steps d y told there in
+    c.in_ok-widen.ensures.frame.within c.requires.file (rw c.requires.second_none c.requires.holds) c.in_ok-widen.ensures.steps d y told there in
     a.is c.args.hash c.args.at c.args.bucket.now c.requires.hash a.content a.file a.told a.there (c.requires.bucket a.content a.file a.told a.there)
 
 pub returns-in_err-other-clause-amount : goal.returns-in_err-other-clause-amount
 returns-in_err-other-clause-amount g c =
     division_amount (g.V.Vault.view_of c.args.vault.now) (g.V.Vault.view_of c.widen.new.vault) (g.V.Vault.view_of c.split_once.new.vault) c.args.header.now c.widen.new.header c.args.bucket.now.bits
-    (rw (← c.bits.ensures.is) c.in_ok-widen.ensures.widened) c.in_ok-widen.ensures.amount c.in_err-other.ensures.amount
+    c.requires.header (rw (← c.bits.ensures.is) c.in_ok-widen.ensures.widened) c.in_ok-widen.ensures.amount c.in_err-other.ensures.amount
 
 pub returns-clause-amount : goal.returns-clause-amount
 returns-clause-amount g c =
     division_amount (g.V.Vault.view_of c.args.vault.now) (g.V.Vault.view_of c.widen.new.vault) (g.V.Vault.view_of c.split_once.new.vault) c.args.header.now c.widen.new.header c.args.bucket.now.bits
-    (rw (← c.bits.ensures.is) c.in_ok-widen.ensures.widened) c.in_ok-widen.ensures.amount c.in_ok-other.ensures.amount
+    c.requires.header (rw (← c.bits.ensures.is) c.in_ok-widen.ensures.widened) c.in_ok-widen.ensures.amount c.in_ok-other.ensures.amount
 
 pub returns-clause-little : goal.returns-clause-little
 returns-clause-little g c =

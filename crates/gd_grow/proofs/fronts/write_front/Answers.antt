@@ -3,6 +3,7 @@ use Rattle.gd_space.proofs.Fits.{bounds}
 use Rattle.gd_split.proofs.Files.{turns_write}
 use Rattle.gd_split.proofs.Settled.{settled}
 use Rattle.gd_grow.specs.Growth.{IsClosed}
+use Rattle.gd_vault.proofs.Files.{only_wrote}
 use Rattle.gd_grow.proofs.fronts.write_front.Goals as goal
 
 pub returns-clause-closes : goal.returns-clause-closes
@@ -25,3 +26,6 @@ returns-clause-closes g c = λ k x blocks told there held.
             size = size;
           });
     }
+
+pub returns-in_err-write_at-clause-frame : goal.returns-in_err-write_at-clause-frame
+returns-in_err-write_at-clause-frame g c = only_wrote c.write_at.ensures.wrote

@@ -1,5 +1,6 @@
 use Rattle.std.proofs.Common.{refl, arith}
 use Rattle.gd_grow.proofs.Ways.{way_begins, way_goes_on, growth_most, has_room, has_wide, holds_now, bucket_now, wrote_most, wrote_failing}
+use Rattle.gd_vault.proofs.Writes.{writes_trans}
 use Rattle.gd_grow.proofs.growing.grow.Goals as goal
 
 pub loop-f-init : goal.loop-f-init
@@ -23,7 +24,7 @@ pub returns-in_err-at-clause-growth : goal.returns-in_err-at-clause-growth
 returns-in_err-at-clause-growth g c = rw c.in_err-at.ensures.kept (growth_most (g.V.Vault.view_of c.args.vault.now) (g.V.Vault.view_of c.loop-f.vault) c.args.f.0 c.args.header.now c.loop-f.header c.args.space.now c.loop-f.space c.args.hash c.loop-f.at c.args.bucket.now c.loop-f.bucket c.loop-f.first c.loop-f.second c.loop-f.invariant)
 
 pub returns-in_err-at-clause-amount : goal.returns-in_err-at-clause-amount
-returns-in_err-at-clause-amount g c = wrote_failing (g.V.Vault.view_of c.args.vault.now) (g.V.Vault.view_of c.loop-f.vault) c.args.f.0 c.args.header.now c.loop-f.header c.args.space.now c.loop-f.space c.args.hash c.loop-f.at c.args.bucket.now c.loop-f.bucket c.loop-f.first c.loop-f.second c.loop-f.invariant (g.V.Vault.view_of c.split_round.new.vault) c.in_err-at.ensures.amount
+returns-in_err-at-clause-amount g c = rw c.in_err-at.ensures.kept (wrote_failing (g.V.Vault.view_of c.args.vault.now) (g.V.Vault.view_of c.loop-f.vault) c.args.f.0 c.args.header.now c.loop-f.header c.args.space.now c.loop-f.space c.args.hash c.loop-f.at c.args.bucket.now c.loop-f.bucket c.loop-f.first c.loop-f.second c.loop-f.invariant (g.V.Vault.view_of c.split_round.new.vault) c.in_err-at.ensures.amount)
 
 pub loop-f-preserved : goal.loop-f-preserved
 loop-f-preserved g c =
@@ -60,3 +61,6 @@ returns-clause-little g c =
     let a = wrote_most (g.V.Vault.view_of c.args.vault.now) (g.V.Vault.view_of c.loop-f.vault) c.args.f.0 c.args.header.now c.loop-f.header c.args.space.now c.loop-f.space c.args.hash c.loop-f.at c.args.bucket.now c.loop-f.bucket c.loop-f.first c.loop-f.second c.loop-f.invariant (g.V.Vault.view_of c.loop-f.vault) 0 (record { bytes = omega arith; clones = refl }) in
     let m = a.bytes in
     record { bytes = omega (arith, m); clones = a.clones }
+
+pub returns-in_err-at-clause-frame : goal.returns-in_err-at-clause-frame
+returns-in_err-at-clause-frame g c = writes_trans c.loop-f.invariant.frame c.split_round.ensures.frame

@@ -5,6 +5,7 @@ use Rattle.gd_format.specs.Field.{i64_at}
 use Rattle.gd_space.proofs.Dones.{tells_none}
 use Rattle.gd_vault.specs.Views.{content_of}
 use Rattle.gd_vault.proofs.Within.{within_trans, within_only_asks}
+use Rattle.gd_vault.proofs.Writes.{writes_trans, writes_only_asks}
 use Rattle.gd_split.specs.Runs.{IsDoubled}
 use Rattle.gd_split.proofs.Files.{told_before, writes_more, writes_asked}
 use Rattle.gd_split.proofs.Entries.{doubled_more, source_same}
@@ -48,7 +49,7 @@ returns-in_default-clause-told g c = λ other.
 pub put_bytes-requires-clause-place : goal.put_bytes-requires-clause-place
 put_bytes-requires-clause-place g c = λ k told y there.
     let i = c.loop-done.invariant in
-    let b = told_before (g.V.Vault.view_of c.args.vault.now) (g.V.Vault.view_of c.read_entries.new.vault) c.args.f.0 (within_trans i.frame (within_only_asks c.in_ok-read_entries.ensures.asks)) c.requires.file k told in
+    let b = told_before (g.V.Vault.view_of c.args.vault.now) (g.V.Vault.view_of c.read_entries.new.vault) c.args.f.0 (within_trans i.frame.within (within_only_asks c.in_ok-read_entries.ensures.asks)) c.requires.file k told in
     let low = (c.requires.places b.0 b.2 b.1 b.3).low in
     let done = i.low in
     omega (arith, low, done)
@@ -83,7 +84,7 @@ loop-done-preserved g c =
                 c.in-Some.ensures.doubled reads.entries);
           };
       there = e.there;
-      frame = within_trans i.frame (within_trans (within_only_asks asks) e.frame);
+      frame = writes_trans i.frame (writes_trans (writes_only_asks asks) e.frame);
       amount = writes_more (16 * c.loop-done.done) _ (16 * (c.loop-done.done + c.portion-part.result)) (g.V.Vault.view_of c.args.vault.now) (g.V.Vault.view_of c.read_entries.new.vault) (g.V.Vault.view_of c.put_bytes.new.vault) (omega (arith, size))
           (writes_asked (16 * c.loop-done.done) (g.V.Vault.view_of c.args.vault.now) (g.V.Vault.view_of c.loop-done.vault) (g.V.Vault.view_of c.read_entries.new.vault) i.amount asks) e.amount;
     }

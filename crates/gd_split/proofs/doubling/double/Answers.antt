@@ -8,6 +8,7 @@ use Rattle.gd_space.specs.Effect.{Change}
 use Rattle.gd_space.proofs.Fits.{bounds}
 use Rattle.gd_vault.specs.Content.{File}
 use Rattle.gd_vault.proofs.Within.{within_trans}
+use Rattle.gd_vault.proofs.Writes.{writes_trans}
 use Rattle.gd_split.specs.Held.{IsBucketOf}
 use Rattle.gd_split.specs.Steps.{KeepsBuckets}
 use Rattle.gd_split.specs.Places.{IsCopyPlace}
@@ -19,7 +20,7 @@ use Rattle.gd_split.proofs.doubling.double.Goals as goal
 
 pub copy_dir-requires-clause-places : goal.copy_dir-requires-clause-places
 copy_dir-requires-clause-places g c = λ k told y there.
-    let b = told_before (g.V.Vault.view_of c.args.vault.now) (g.V.Vault.view_of c.take_room.new.vault) c.args.f.0 c.take_room.ensures.frame c.requires.file k told in
+    let b = told_before (g.V.Vault.view_of c.args.vault.now) (g.V.Vault.view_of c.take_room.new.vault) c.args.f.0 c.take_room.ensures.frame.within c.requires.file k told in
     let h = c.requires.holds b.0 b.1 b.2 b.3 in
     let a = c.in_ok-at.ensures.done b.0 b.1 h.0 b.2 b.3 h.1.side in
     let bound = c.in_ok-at.ensures.bound in
@@ -34,7 +35,7 @@ copy_dir-requires-clause-places g c = λ k told y there.
 
 pub give_room-requires-clause-side : goal.give_room-requires-clause-side
 give_room-requires-clause-side g c = λ k y told there.
-    let b = told_before (g.V.Vault.view_of c.args.vault.now) (g.V.Vault.view_of c.copy_dir.new.vault) c.args.f.0 (within_trans c.take_room.ensures.frame c.copy_dir.ensures.frame) c.requires.file k told in
+    let b = told_before (g.V.Vault.view_of c.args.vault.now) (g.V.Vault.view_of c.copy_dir.new.vault) c.args.f.0 (within_trans c.take_room.ensures.frame.within c.copy_dir.ensures.frame.within) c.requires.file k told in
     let h = c.requires.holds b.0 b.1 b.2 b.3 in
     let a = c.in_ok-at.ensures.done b.0 b.1 h.0 b.2 b.3 h.1.side in
     let t = c.in_ok-copy_dir.ensures.doubled a.content a.file a.told a.there in
@@ -81,12 +82,18 @@ returns-clause-steps g c = λ k x blocks told there held.
 
 pub returns-clause-holds : goal.returns-clause-holds
 returns-clause-holds g c =
-    let frame = within_trans (within_trans c.take_room.ensures.frame c.copy_dir.ensures.frame) c.give_room.ensures.frame in
+    let frame = within_trans (within_trans c.take_room.ensures.frame.within c.copy_dir.ensures.frame.within) c.give_room.ensures.frame.within in
     holds_after (g.V.Vault.view_of c.args.vault.now) (g.V.Vault.view_of c.give_room.new.vault) c.args.f.0 c.args.header.now c.give_room.new.header c.args.space.now.table.next_block c.give_room.new.space.table.next_block c.args.space.now.table.extents c.args.loose.now.free c.give_room.new.space.table.extents c.give_room.new.loose.free 64
     (λ file. KeepsBuckets (g.V.Vault.view_of c.args.vault.now) c.args.f.0 c.args.header.now file c.give_room.new.header) frame c.requires.file c.requires.holds (returns-clause-steps g c)
 
 pub returns-clause-buckets : goal.returns-clause-buckets
 returns-clause-buckets g c =
-    let frame = within_trans (within_trans c.take_room.ensures.frame c.copy_dir.ensures.frame) c.give_room.ensures.frame in
+    let frame = within_trans (within_trans c.take_room.ensures.frame.within c.copy_dir.ensures.frame.within) c.give_room.ensures.frame.within in
     bucket_stays (g.V.Vault.view_of c.args.vault.now) (g.V.Vault.view_of c.give_room.new.vault) c.args.f.0 c.args.header.now c.give_room.new.header c.args.space.now.table.next_block c.give_room.new.space.table.next_block c.args.space.now.table.extents c.args.loose.now.free c.give_room.new.space.table.extents c.give_room.new.loose.free 64
     frame c.requires.file c.requires.holds (returns-clause-steps g c)
+
+pub returns-in_err-give_room-clause-frame : goal.returns-in_err-give_room-clause-frame
+returns-in_err-give_room-clause-frame g c = writes_trans (writes_trans c.take_room.ensures.frame c.copy_dir.ensures.frame) c.give_room.ensures.frame
+
+pub returns-clause-frame : goal.returns-clause-frame
+returns-clause-frame g c = writes_trans (writes_trans c.take_room.ensures.frame c.copy_dir.ensures.frame) c.give_room.ensures.frame

@@ -4,13 +4,13 @@ use Rattle.gd_split.proofs.Takes.{none_high}
 use Rattle.gd_split.proofs.rooms.take_room.Goals as goal
 
 pub returns-then-at-clause-there : goal.returns-then-at-clause-there
-returns-then-at-clause-there g c = there_after c.args.f.0 c.take.ensures.frame c.requires.file
+returns-then-at-clause-there g c = there_after c.args.f.0 c.take.ensures.frame.within c.requires.file
 
 pub returns-else-at-clause-there : goal.returns-else-at-clause-there
-returns-else-at-clause-there g c = there_after c.args.f.0 c.take.ensures.frame c.requires.file
+returns-else-at-clause-there g c = there_after c.args.f.0 c.take.ensures.frame.within c.requires.file
 
 pub returns-in-Err-VaultFault-clause-there : goal.returns-in-Err-VaultFault-clause-there
-returns-in-Err-VaultFault-clause-there g c = there_after c.args.f.0 c.take.ensures.frame c.requires.file
+returns-in-Err-VaultFault-clause-there g c = there_after c.args.f.0 c.take.ensures.frame.within c.requires.file
 
 pub returns-then-at-clause-told : goal.returns-then-at-clause-told
 returns-then-at-clause-told g c = λ other.

@@ -1,6 +1,6 @@
 use Rattle.std.proofs.Common.{◌+◌, ◌*◌, ◌≤◌, List, ℕ, length, sym, subst, arith}
 use Rattle.std.proofs.lemmas.List.{length-take-le}
-use Rattle.gd_vault.proofs.Within.{within_trans}
+use Rattle.gd_vault.proofs.Writes.{writes_trans}
 use Rattle.gd_split.specs.Runs.{IsPointed}
 use Rattle.gd_split.proofs.Files.{before_after, writes_more}
 use Rattle.gd_split.proofs.Entries.{pointed_more}
@@ -9,7 +9,7 @@ use Rattle.gd_split.proofs.runs.point_run.Goals as goal
 pub put_bytes-requires-clause-place : goal.put_bytes-requires-clause-place
 put_bytes-requires-clause-place g c = λ k told y there.
     let i = c.loop-done.invariant in
-    let b = before_after (g.V.Vault.view_of c.args.vault.now) (g.V.Vault.view_of c.loop-done.vault) c.args.f.0 (IsPointed c.args.place c.loop-done.done c.args.address) i.frame c.requires.file i.turned k y told there in
+    let b = before_after (g.V.Vault.view_of c.args.vault.now) (g.V.Vault.view_of c.loop-done.vault) c.args.f.0 (IsPointed c.args.place c.loop-done.done c.args.address) i.frame.within c.requires.file i.turned k y told there in
     let inside = c.requires.inside b.0 b.2 b.1 b.3 in
     let size = b.4.size in
     let low = i.low in
@@ -38,6 +38,6 @@ loop-done-preserved g c =
                 (pointed_more c.args.place c.loop-done.done c.portion-part.result c.args.address x.bytes a.file.bytes c.fill_page.new.page a.holds few (λ j lt. c.fill_page.ensures j (let most = p.few in omega (arith, lt, most))) (let inside = c.requires.inside k told x there in let within = p.within in omega (arith, inside, within, t)));
           };
       there = e.there;
-      frame = within_trans i.frame e.frame;
+      frame = writes_trans i.frame e.frame;
       amount = writes_more (8 * c.loop-done.done) _ (8 * (c.loop-done.done + c.portion-part.result)) (g.V.Vault.view_of c.args.vault.now) (g.V.Vault.view_of c.loop-done.vault) (g.V.Vault.view_of c.put_bytes.new.vault) (omega (arith, size)) i.amount e.amount;
     }

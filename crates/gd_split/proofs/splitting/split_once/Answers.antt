@@ -4,6 +4,7 @@ use Rattle.gd_file_laws.specs.Frame.{written}
 use Rattle.gd_space.specs.Calls.{free_lists}
 use Rattle.gd_space.proofs.Fits.{bounds}
 use Rattle.gd_vault.proofs.Within.{within_trans}
+use Rattle.gd_vault.proofs.Writes.{writes_trans}
 use Rattle.gd_split.specs.Runs.{IsPointed}
 use Rattle.gd_split.specs.Steps.{IsNext}
 use Rattle.gd_split.specs.SplitLaws.{half_of, half_start, SplitMade}
@@ -15,7 +16,7 @@ use Rattle.gd_split.proofs.splitting.split_once.Goals as goal
 
 pub put_bucket-requires-clause-place : goal.put_bucket-requires-clause-place
 put_bucket-requires-clause-place g c = λ k told y there.
-    let b = told_before (g.V.Vault.view_of c.args.vault.now) (g.V.Vault.view_of c.take_room.new.vault) c.args.f.0 c.take_room.ensures.frame c.requires.file k told in
+    let b = told_before (g.V.Vault.view_of c.args.vault.now) (g.V.Vault.view_of c.take_room.new.vault) c.args.f.0 c.take_room.ensures.frame.within c.requires.file k told in
     let h = c.requires.holds b.0 b.1 b.2 b.3 in
     let a = c.in_ok-other.ensures.done b.0 b.1 h.0 b.2 b.3 h.1.side in
     let least = (bounds c.args.header.now c.requires.header).least in
@@ -46,7 +47,7 @@ put_bucket-requires-2-clause-room g c =
 
 pub put_bucket-requires-2-clause-place : goal.put_bucket-requires-2-clause-place
 put_bucket-requires-2-clause-place g c = λ k told y there.
-    let b = told_before (g.V.Vault.view_of c.args.vault.now) (g.V.Vault.view_of c.put_bucket.new.vault) c.args.f.0 (within_trans c.take_room.ensures.frame c.put_bucket.ensures.frame) c.requires.file k told in
+    let b = told_before (g.V.Vault.view_of c.args.vault.now) (g.V.Vault.view_of c.put_bucket.new.vault) c.args.f.0 (within_trans c.take_room.ensures.frame.within c.put_bucket.ensures.frame.within) c.requires.file k told in
     let h = c.requires.holds b.0 b.1 b.2 b.3 in
     let e = bucket_in b.1.bytes c.args.header.now c.args.space.now.table.next_block _ c.args.hash c.args.at c.args.bucket.now h.1 c.requires.hash (c.requires.bucket b.0 b.1 b.2 b.3) in
     let short = h.1.file_is.short in
@@ -55,7 +56,7 @@ put_bucket-requires-2-clause-place g c = λ k told y there.
 
 pub point_run-requires-clause-inside : goal.point_run-requires-clause-inside
 point_run-requires-clause-inside g c = λ k told y there.
-    let b = told_before (g.V.Vault.view_of c.args.vault.now) (g.V.Vault.view_of c.put_bucket-2.new.vault) c.args.f.0 (within_trans (within_trans c.take_room.ensures.frame c.put_bucket.ensures.frame) c.put_bucket-2.ensures.frame) c.requires.file k told in
+    let b = told_before (g.V.Vault.view_of c.args.vault.now) (g.V.Vault.view_of c.put_bucket-2.new.vault) c.args.f.0 (within_trans (within_trans c.take_room.ensures.frame.within c.put_bucket.ensures.frame.within) c.put_bucket-2.ensures.frame.within) c.requires.file k told in
     let h = c.requires.holds b.0 b.1 b.2 b.3 in
     let a = c.in_ok-other.ensures.done b.0 b.1 h.0 b.2 b.3 h.1.side in
     let t = c.in_ok-put_bucket.ensures.wrote a.content a.file a.told a.there in
@@ -109,18 +110,27 @@ returns-clause-steps g c = λ k x blocks told there held.
 
 pub returns-clause-holds : goal.returns-clause-holds
 returns-clause-holds g c =
-    let frame = within_trans (within_trans (within_trans c.take_room.ensures.frame c.put_bucket.ensures.frame) c.put_bucket-2.ensures.frame) c.point_run.ensures.frame in
+    let frame = within_trans (within_trans (within_trans c.take_room.ensures.frame.within c.put_bucket.ensures.frame.within) c.put_bucket-2.ensures.frame.within) c.point_run.ensures.frame.within in
     holds_after (g.V.Vault.view_of c.args.vault.now) (g.V.Vault.view_of c.point_run.new.vault) c.args.f.0 c.args.header.now c.take_room.new.header c.args.space.now.table.next_block c.take_room.new.space.table.next_block c.args.space.now.table.extents c.args.second.now.free c.take_room.new.space.table.extents [] 32
     (λ file. IsNext file c.take_room.new.header c.args.hash c.args.at c.in_ok-other.other c.args.bucket.now.bits c.part.new.first c.part.new.second) frame c.requires.file c.requires.holds (returns-clause-steps g c)
 
 pub returns-clause-low_bucket : goal.returns-clause-low_bucket
 returns-clause-low_bucket g c = λ side k y told there.
-    let frame = within_trans (within_trans (within_trans c.take_room.ensures.frame c.put_bucket.ensures.frame) c.put_bucket-2.ensures.frame) c.point_run.ensures.frame in
+    let frame = within_trans (within_trans (within_trans c.take_room.ensures.frame.within c.put_bucket.ensures.frame.within) c.put_bucket-2.ensures.frame.within) c.point_run.ensures.frame.within in
     (buckets_after (g.V.Vault.view_of c.args.vault.now) (g.V.Vault.view_of c.point_run.new.vault) c.args.f.0 c.args.header.now c.take_room.new.header c.args.space.now.table.next_block c.take_room.new.space.table.next_block c.args.space.now.table.extents c.args.second.now.free c.take_room.new.space.table.extents [] 32
     (λ file. IsNext file c.take_room.new.header c.args.hash c.args.at c.in_ok-other.other c.args.bucket.now.bits c.part.new.first c.part.new.second) frame c.requires.file c.requires.holds (returns-clause-steps g c) k y told there).low side
 
 pub returns-clause-high_bucket : goal.returns-clause-high_bucket
 returns-clause-high_bucket g c = λ side k y told there.
-    let frame = within_trans (within_trans (within_trans c.take_room.ensures.frame c.put_bucket.ensures.frame) c.put_bucket-2.ensures.frame) c.point_run.ensures.frame in
+    let frame = within_trans (within_trans (within_trans c.take_room.ensures.frame.within c.put_bucket.ensures.frame.within) c.put_bucket-2.ensures.frame.within) c.point_run.ensures.frame.within in
     (buckets_after (g.V.Vault.view_of c.args.vault.now) (g.V.Vault.view_of c.point_run.new.vault) c.args.f.0 c.args.header.now c.take_room.new.header c.args.space.now.table.next_block c.take_room.new.space.table.next_block c.args.space.now.table.extents c.args.second.now.free c.take_room.new.space.table.extents [] 32
     (λ file. IsNext file c.take_room.new.header c.args.hash c.args.at c.in_ok-other.other c.args.bucket.now.bits c.part.new.first c.part.new.second) frame c.requires.file c.requires.holds (returns-clause-steps g c) k y told there).high side
+
+pub returns-in_err-put_bucket-2-clause-frame : goal.returns-in_err-put_bucket-2-clause-frame
+returns-in_err-put_bucket-2-clause-frame g c = writes_trans (writes_trans c.take_room.ensures.frame c.put_bucket.ensures.frame) c.put_bucket-2.ensures.frame
+
+pub returns-in_err-point_run-clause-frame : goal.returns-in_err-point_run-clause-frame
+returns-in_err-point_run-clause-frame g c = writes_trans (writes_trans (writes_trans c.take_room.ensures.frame c.put_bucket.ensures.frame) c.put_bucket-2.ensures.frame) c.point_run.ensures.frame
+
+pub returns-clause-frame : goal.returns-clause-frame
+returns-clause-frame g c = writes_trans (writes_trans (writes_trans c.take_room.ensures.frame c.put_bucket.ensures.frame) c.put_bucket-2.ensures.frame) c.point_run.ensures.frame
