@@ -9,9 +9,8 @@ use Rattle.gd_readable.specs.declared.reading.Stopped.TheVariants.{Fault, NoMemo
 use Rattle.gd_readable.specs.Asks.{Kept, kept_of, bytes_in, file_in, is_there, is_file_in, Tells, IsCause}
 
 -- a cause of a later call
-pub cause_later : (e : Stopped) (a b c : ℕ) → IsCause e b c → a ≤ b → IsCause e a c
-cause_later Fault a b c rose le = let r : min (b + 1) (2 ^ 64 - 1) ≤ c = rose in omega arith
-cause_later NoMemory a b c rose le = tt
+pub cause_later : (e : Stopped) (a b c : ℕ) → IsCause e b c → b ≡ a → IsCause e a c
+cause_later e a b c cause same = rw (← same) cause
 
 pub same_kept : (u v : View) → v.told ≡ u.told → v.bytes_written ≡ u.bytes_written → v.clones ≡ u.clones → kept_of v ≡ kept_of u
 unfolding kept_of

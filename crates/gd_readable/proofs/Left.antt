@@ -67,6 +67,18 @@ module _ (file : List ℕ) (h : Header) (i : ℕ) (block : List ℕ) (s : ℕ) (
         in_bucket = λ l. absurd (omega arith);
       }
 
+  -- behind the last bucket
+  pub walk_ended : (next : List ℕ) → IsWalk file h (entries_of h) next h.elems
+  walk_ended next =
+      record {
+        readable = w.readable;
+        header = w.header;
+        entries = omega arith;
+        slots = omega arith;
+        begun = λ l. absurd (omega arith);
+        in_bucket = λ l. absurd (omega arith);
+      }
+
   -- one record on
   pub walk_slot : (t : ℕ) → s ≤ t → t < h.elems → IsWalk file h i block (t + 1)
   walk_slot t le lt =

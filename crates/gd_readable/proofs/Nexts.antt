@@ -5,14 +5,14 @@ use Rattle.std.proofs.Math.Seq.{take-append_seam}
 use Rattle.gd_base.specs.Causes.{Rose}
 use Rattle.gd_base.specs.declared.errors.DbError.{DbError}
 use Rattle.gd_format.specs.declared.Header.{Header}
-use Rattle.gd_format.specs.File.{is_full_at}
+use Rattle.gd_format.specs.File.{entries_of, is_first, is_full_at}
 use Rattle.gd_vault.specs.Content.{File, Content}
 use Rattle.gd_vault.specs.Views.{View, HasFile, IsAt, content_of}
 use Rattle.gd_readable.specs.Asks.{kept_of, bytes_in, Tells, Refuses, RefusesWalk}
 use Rattle.gd_readable.specs.Left.{passing_from, buckets_left, records_left}
 use Rattle.gd_readable.specs.Standing.{Standing, StandsIn, left_of}
 use Rattle.gd_readable.proofs.Asks.{bytes_told}
-use Rattle.gd_readable.proofs.Passing.{no_slots, slots_none}
+use Rattle.gd_readable.proofs.Passing.{no_slots, slots_none, passing_end, buckets_none}
 use Rattle.gd_readable.proofs.Refusals.{refuses_map}
 
 -- a buffer that was filled whole
@@ -23,6 +23,9 @@ module _ (file : List ℕ) (h : Header) (i : ℕ) where
   -- where no slot of the bucket is full any more
   pub left_behind : (block : List ℕ) (s : ℕ) → passing_from (is_full_at block) h.elems s ≡ [] → records_left file h i block s ≡ buckets_left file h i
   left_behind block s e = ap (λ (l : List (List ℕ × List ℕ)). l ++ buckets_left file h i) (slots_none file block h.elems s e)
+
+  pub left_ended : (block : List ℕ) (s : ℕ) → i ≡ entries_of h → s ≡ h.elems → records_left file h i block s ≡ []
+  left_ended block s at slot = left_behind block s (passing_end (is_full_at block) h.elems s (omega arith)) ∙ buckets_none file h i (passing_end (is_first file h) (entries_of h) i (omega arith))
 
   pub left_at_end : (block : List ℕ) → records_left file h i block h.elems ≡ buckets_left file h i
   left_at_end block = ap (λ (l : List (List ℕ × List ℕ)). l ++ buckets_left file h i) (no_slots file block h.elems h.elems (omega arith))

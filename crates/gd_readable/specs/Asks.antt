@@ -3,7 +3,7 @@ use Rattle.std.specs.Prelude.{◌≡◌, ◌+◌, ◌<◌, ◌≤◌, ℕ, Bool,
 use Rattle.std.specs.Option.{option_and_then}
 use Rattle.gd_base.specs.Causes.{Rose}
 use Rattle.gd_base.specs.declared.errors.DbError.{DbError}
-use Rattle.gd_base.specs.declared.errors.DbError.TheVariants.{VaultFault, OutOfMemory, Absent}
+use Rattle.gd_base.specs.declared.errors.DbError.TheVariants.{BlockSize, ShortFile, BadMagic, ByteSwapped, WrongOffset, BadHeader, BadDirEntry, BadBucket, BadHashTable, BadHashEntry, BadAvail, NeedRecovery, VaultFault, OutOfMemory, Absent}
 use Rattle.gd_format.specs.File.{file_fault}
 use Rattle.gd_readable.specs.declared.reading.Stopped.{Stopped}
 use Rattle.gd_readable.specs.declared.reading.Stopped.TheVariants.{Fault, NoMemory}
@@ -41,11 +41,35 @@ Tells told P = (file : List ℕ) → told ≡ Some file → P file
 -- why a check ended before its answer
 abbrev pub IsCause : Stopped → ℕ → ℕ → Type 0
 IsCause Fault before now = Rose before now
-IsCause NoMemory before now = Unit {0}
+IsCause NoMemory before now = now ≡ before
 
 -- the bytes from a place on, where there are any, lie in the file
 abbrev pub IsIn : List ℕ → ℕ → ℕ → Type 0
 IsIn file at size = 0 < size → at + size ≤ length file
+
+-- is an error a refusal of a bucket or of an entry of the directory?
+abbrev pub is_of_bucket : DbError → Bool
+is_of_bucket (BadDirEntry index) = true
+is_of_bucket (BadBucket at) = true
+is_of_bucket (BadHashTable at) = true
+is_of_bucket (BadHashEntry at slot) = true
+is_of_bucket e = false
+
+-- a refusal of a file that is read?
+abbrev pub is_of_readable : DbError → Bool
+is_of_readable BlockSize = true
+is_of_readable ShortFile = true
+is_of_readable BadMagic = true
+is_of_readable ByteSwapped = true
+is_of_readable WrongOffset = true
+is_of_readable BadHeader = true
+is_of_readable e = is_of_bucket e
+
+-- a refusal of a file that is written?
+abbrev pub is_of_sound : DbError → Bool
+is_of_sound (BadAvail at) = true
+is_of_sound NeedRecovery = true
+is_of_sound e = is_of_readable e
 
 -- does an error speak of the file alone?
 abbrev pub is_of_file : DbError → Bool
@@ -59,6 +83,15 @@ abbrev pub Refuses : DbError → (fault refusal : Type 0) → Type 0
 Refuses VaultFault fault refusal = fault
 Refuses OutOfMemory fault refusal = Unit {0}
 Refuses e fault refusal = refusal
+
+-- which errors a call may answer, whatever the vault tells: a fault, want of memory, and these
+abbrev pub IsAnswer : (DbError → Bool) → DbError → Type 0
+IsAnswer p e = Refuses e (Unit {0}) (p e ≡ true)
+
+-- a fault raises the count of faults, and every other error leaves it
+abbrev pub Counts : DbError → ℕ → ℕ → Type 0
+Counts VaultFault before now = Rose before now
+Counts e before now = now ≡ before
 
 -- why a file was not read: a fault of the vault, want of memory, or the first refusal of the file
 abbrev pub RefusesFile : DbError → ℕ → View → View → Type 0

@@ -40,3 +40,10 @@ slots_of_walk w = slots_ahead w.header w.entry w.slot
 abbrev pub place_of : ℤ → Option ℕ
 place_of (pos n) = Some n
 place_of (negsuc n) = None
+
+-- behind the last bucket
+abbrev pub IsAtEnd : Header → (entry slot : ℕ) → Type 0
+IsAtEnd h entry slot = (entry ≡ entries_of h) × (slot ≡ h.elems)
+
+abbrev pub IsEnded : Standing → Type 0
+IsEnded w = IsAtEnd w.header w.entry w.slot

@@ -9,7 +9,7 @@ ghost use Rattle.gd_layout.specs.Fits.{FitsHeader};
 ghost use Rattle.gd_format.specs.File.{block_of, dir_fault, entry_at, entry_fault, file_fault, front_of, is_block_in, is_first, run_at, run_fault};
 ghost use Rattle.gd_vault.specs.Content.{File};
 ghost use Rattle.gd_vault.specs.Views.{HasFile, IsAt, OnlyAsks};
-ghost use Rattle.gd_readable.specs.Asks.{kept_of, bytes_in, is_there, Tells, IsCause, is_of_file, RefusesFile};
+ghost use Rattle.gd_readable.specs.Asks.{kept_of, bytes_in, is_there, Tells, IsCause, is_of_readable, RefusesFile, IsAnswer, Counts};
 ghost use Rattle.gd_readable.specs.Checks.{IsHeaderIn, SeesPlaces};
 
 use crate::directory::run_of;
@@ -36,6 +36,7 @@ pub fn stored_entry<V: Vault>(
     requires within { i < 2 ^ header.now.dir_bits }
     ensures same { kept_of (V.view_of vault.new) ≡ kept_of (V.view_of vault.old) }
     ensures later { (V.view_of vault.old).faults ≤ (V.view_of vault.new).faults }
+    ensures answered { IfOk result (λ _. (V.view_of vault.new).faults ≡ (V.view_of vault.old).faults) }
     ensures failed { IfErr result (λ e. IsCause e (V.view_of vault.old).faults (V.view_of vault.new).faults) }
     ensures entry { IfOk result (λ r. Tells (bytes_in (kept_of (V.view_of vault.old)) f.0) (λ file. length file ≡ len → r ≡ entry_at file header.now i)) }
 {
@@ -62,8 +63,9 @@ fn other_in_run<V: Vault>(
     requires some { 0 < run }
     ensures same { kept_of (V.view_of vault.new) ≡ kept_of (V.view_of vault.old) }
     ensures later { (V.view_of vault.old).faults ≤ (V.view_of vault.new).faults }
+    ensures answered { IfOk result (λ _. (V.view_of vault.new).faults ≡ (V.view_of vault.old).faults) }
     ensures failed { IfErr result (λ e. IsCause e (V.view_of vault.old).faults (V.view_of vault.new).faults) }
-    ensures kind { IfOk result (λ r. IfSome r (λ e. is_of_file e ≡ true)) }
+    ensures kind { IfOk result (λ r. IfSome r (λ e. is_of_readable e ≡ true)) }
     ensures other { IfOk result (λ r. Tells (bytes_in (kept_of (V.view_of vault.old)) f.0) (λ file. length file ≡ len → r ≡ first_below run (run_fault file header.now i))) }
 {
     let own = stored_entry(vault, f, header, i, len)?;
@@ -90,6 +92,7 @@ fn block_place<V: Vault>(
     requires within { i < 2 ^ header.now.dir_bits }
     ensures same { kept_of (V.view_of vault.new) ≡ kept_of (V.view_of vault.old) }
     ensures later { (V.view_of vault.old).faults ≤ (V.view_of vault.new).faults }
+    ensures answered { IfOk result (λ _. (V.view_of vault.new).faults ≡ (V.view_of vault.old).faults) }
     ensures failed { IfErr result (λ e. IsCause e (V.view_of vault.old).faults (V.view_of vault.new).faults) }
     ensures none { IfOk result (λ r. Tells (bytes_in (kept_of (V.view_of vault.old)) f.0) (λ file. length file ≡ len → r ≡ None → is_block_in file header.now i ≡ false)) }
     ensures some { IfOk result (λ r. IfSome r (λ at. Tells (bytes_in (kept_of (V.view_of vault.old)) f.0) (λ file. length file ≡ len → (is_block_in file header.now i ≡ true) × (entry_at file header.now i ≡ pos at)))) }
@@ -119,6 +122,7 @@ fn read_bucket_of<V: Vault>(
     requires size { length block.old ≡ header.now.block }
     ensures same { kept_of (V.view_of vault.new) ≡ kept_of (V.view_of vault.old) }
     ensures later { (V.view_of vault.old).faults ≤ (V.view_of vault.new).faults }
+    ensures answered { IfOk result (λ _. (V.view_of vault.new).faults ≡ (V.view_of vault.old).faults) }
     ensures failed { IfErr result (λ e. IsCause e (V.view_of vault.old).faults (V.view_of vault.new).faults) }
     ensures none { IfOk result (λ r. Tells (bytes_in (kept_of (V.view_of vault.old)) f.0) (λ file. length file ≡ len → r ≡ None → is_block_in file header.now i ≡ false)) }
     ensures some { IfOk result (λ r. IfSome r (λ at. Tells (bytes_in (kept_of (V.view_of vault.old)) f.0) (λ file. length file ≡ len → (is_block_in file header.now i ≡ true) × (entry_at file header.now i ≡ pos at) × (block.new ≡ block_of file header.now i)))) }
@@ -166,8 +170,9 @@ fn entry_run<V: Vault>(
     requires rooms { length two.old ≡ length one.old }
     ensures same { kept_of (V.view_of vault.new) ≡ kept_of (V.view_of vault.old) }
     ensures later { (V.view_of vault.old).faults ≤ (V.view_of vault.new).faults }
+    ensures answered { IfOk result (λ _. (V.view_of vault.new).faults ≡ (V.view_of vault.old).faults) }
     ensures failed { IfErr result (λ e. IsCause e (V.view_of vault.old).faults (V.view_of vault.new).faults) }
-    ensures kind { IfOk result (λ r. IfErr r (λ e. is_of_file e ≡ true)) }
+    ensures kind { IfOk result (λ r. IfErr r (λ e. is_of_readable e ≡ true)) }
     ensures some { IfOk result (λ r. IfOk r (λ run. (0 < run) × (run ≤ 2 ^ 24))) }
     ensures run { IfOk result (λ r. IfOk r (λ run. Tells (bytes_in (kept_of (V.view_of vault.old)) f.0) (λ file. length file ≡ len → SeesPlaces places.old file header.now i → (entry_fault file header.now i ≡ None) × (run ≡ run_at file header.now i)))) }
     ensures seen { IfOk result (λ r. IfOk r (λ run. Tells (bytes_in (kept_of (V.view_of vault.old)) f.0) (λ file. length file ≡ len → SeesPlaces places.old file header.now i → SeesPlaces places.new file header.now (i + run)))) }
@@ -216,8 +221,9 @@ fn dir_refusal<V: Vault>(
     requires rooms { length two.old ≡ length one.old }
     ensures same { kept_of (V.view_of vault.new) ≡ kept_of (V.view_of vault.old) }
     ensures later { (V.view_of vault.old).faults ≤ (V.view_of vault.new).faults }
+    ensures answered { IfOk result (λ _. (V.view_of vault.new).faults ≡ (V.view_of vault.old).faults) }
     ensures failed { IfErr result (λ e. IsCause e (V.view_of vault.old).faults (V.view_of vault.new).faults) }
-    ensures kind { IfOk result (λ r. IfSome r (λ e. is_of_file e ≡ true)) }
+    ensures kind { IfOk result (λ r. IfSome r (λ e. is_of_readable e ≡ true)) }
     ensures refusal { IfOk result (λ r. Tells (bytes_in (kept_of (V.view_of vault.old)) f.0) (λ file. length file ≡ len → r ≡ dir_fault file header.now)) }
 {
     let n = 1u64 << header.dir_bits;
@@ -256,8 +262,9 @@ fn buckets_refusal<V: Vault>(
     requires header { IsHeaderIn header.now len }
     ensures same { kept_of (V.view_of vault.new) ≡ kept_of (V.view_of vault.old) }
     ensures later { (V.view_of vault.old).faults ≤ (V.view_of vault.new).faults }
+    ensures answered { IfOk result (λ _. (V.view_of vault.new).faults ≡ (V.view_of vault.old).faults) }
     ensures failed { IfErr result (λ e. IsCause e (V.view_of vault.old).faults (V.view_of vault.new).faults) }
-    ensures kind { IfOk result (λ r. IfSome r (λ e. is_of_file e ≡ true)) }
+    ensures kind { IfOk result (λ r. IfSome r (λ e. is_of_readable e ≡ true)) }
     ensures refusal { IfOk result (λ r. Tells (bytes_in (kept_of (V.view_of vault.old)) f.0) (λ file. length file ≡ len → r ≡ dir_fault file header.now)) }
 {
     let Ok(mut block) = vec![in alloc; 0u8; header.block as usize] else {
@@ -282,8 +289,9 @@ fn stored_header<V: Vault>(
     requires there { is_there (kept_of (V.view_of vault.old)) f.0 ≡ true }
     ensures same { kept_of (V.view_of vault.new) ≡ kept_of (V.view_of vault.old) }
     ensures later { (V.view_of vault.old).faults ≤ (V.view_of vault.new).faults }
+    ensures answered { IfOk result (λ _. (V.view_of vault.new).faults ≡ (V.view_of vault.old).faults) }
     ensures failed { IfErr result (λ e. IsCause e (V.view_of vault.old).faults (V.view_of vault.new).faults) }
-    ensures kind { IfOk result (λ r. IfErr r (λ e. is_of_file e ≡ true)) }
+    ensures kind { IfOk result (λ r. IfErr r (λ e. is_of_readable e ≡ true)) }
     ensures inside { IfOk result (λ r. IfOk r (λ h. IsHeaderIn h len)) }
     ensures own { IfOk result (λ r. IfOk r IsHeader) }
     ensures fits { IfOk result (λ r. IfOk r FitsHeader) }
@@ -313,8 +321,9 @@ fn checked<V: Vault>(
     requires there { is_there (kept_of (V.view_of vault.old)) f.0 ≡ true }
     ensures same { kept_of (V.view_of vault.new) ≡ kept_of (V.view_of vault.old) }
     ensures later { (V.view_of vault.old).faults ≤ (V.view_of vault.new).faults }
+    ensures answered { IfOk result (λ _. (V.view_of vault.new).faults ≡ (V.view_of vault.old).faults) }
     ensures failed { IfErr result (λ e. IsCause e (V.view_of vault.old).faults (V.view_of vault.new).faults) }
-    ensures kind { IfOk result (λ r. IfErr r (λ e. is_of_file e ≡ true)) }
+    ensures kind { IfOk result (λ r. IfErr r (λ e. is_of_readable e ≡ true)) }
     ensures own { IfOk result (λ r. IfOk r IsHeader) }
     ensures fits { IfOk result (λ r. IfOk r FitsHeader) }
     ensures native { IfOk result (λ r. IfOk r (λ h. is_native h.magic ≡ true)) }
@@ -337,7 +346,7 @@ fn checked<V: Vault>(
 /// are read one by one.
 ///
 /// Over a vault that doesn't tell what it holds, a read that gives fewer bytes than a check needs fails that check.
-#[tactic(auto, using(crate::proofs::Asks::only_asks, crate::proofs::Asks::is_there_now, crate::proofs::Refusals::refuses_file, crate::proofs::Refusals::reads_file))]
+#[tactic(auto, using(crate::proofs::Asks::only_asks, crate::proofs::Asks::is_there_now, crate::proofs::Refusals::refuses_file, crate::proofs::Refusals::reads_file, crate::proofs::Refusals::kind_readable, crate::proofs::Refusals::counts_readable))]
 pub fn readable<V: Vault>(alloc: Global, vault: &mut V, f: FileId) -> Result<Header, DbError>
     requires { HasFile (V.view_of vault.old) f.0 }
     ensures asks { OnlyAsks (V.view_of vault.old) (V.view_of vault.new) }
@@ -346,6 +355,9 @@ pub fn readable<V: Vault>(alloc: Global, vault: &mut V, f: FileId) -> Result<Hea
     ensures native { IfOk result (λ h. is_native h.magic ≡ true) }
     ensures readable { IfOk result (λ h. IsAt (V.view_of vault.old) (λ c. (x : File) → c.files f.0 ≡ Some x → (file_fault x.bytes ≡ None) × (h ≡ header_of (front_of x.bytes)))) }
     ensures refused { IfErr result (λ e. RefusesFile e f.0 (V.view_of vault.old) (V.view_of vault.new)) }
+    ensures kind { IfErr result (λ e. IsAnswer is_of_readable e) }
+    ensures answered { IfOk result (λ _. (V.view_of vault.new).faults ≡ (V.view_of vault.old).faults) }
+    ensures counted { IfErr result (λ e. Counts e (V.view_of vault.old).faults (V.view_of vault.new).faults) }
 {
     match checked(alloc, vault, f) {
         Ok(answer) => answer,

@@ -24,6 +24,7 @@ pub fn file_len<V: Vault>(vault: &mut V, f: FileId) -> Result<u64, Stopped>
     requires there { is_there (kept_of (V.view_of vault.old)) f.0 ≡ true }
     ensures same { kept_of (V.view_of vault.new) ≡ kept_of (V.view_of vault.old) }
     ensures later { (V.view_of vault.old).faults ≤ (V.view_of vault.new).faults }
+    ensures answered { IfOk result (λ _. (V.view_of vault.new).faults ≡ (V.view_of vault.old).faults) }
     ensures failed { IfErr result (λ e. IsCause e (V.view_of vault.old).faults (V.view_of vault.new).faults) }
     ensures len { IfOk result (λ n. Tells (bytes_in (kept_of (V.view_of vault.old)) f.0) (λ file. length file ≡ n)) }
 {
@@ -44,6 +45,7 @@ pub fn read_some<V: Vault>(
     requires there { is_there (kept_of (V.view_of vault.old)) f.0 ≡ true }
     ensures same { kept_of (V.view_of vault.new) ≡ kept_of (V.view_of vault.old) }
     ensures later { (V.view_of vault.old).faults ≤ (V.view_of vault.new).faults }
+    ensures answered { IfOk result (λ _. (V.view_of vault.new).faults ≡ (V.view_of vault.old).faults) }
     ensures failed { IfErr result (λ e. IsCause e (V.view_of vault.old).faults (V.view_of vault.new).faults) }
     ensures count { IfOk result (λ n. n ≤ length buf.old) }
     ensures read { IfOk result (λ n. Tells (bytes_in (kept_of (V.view_of vault.old)) f.0) (λ file. (n ≡ min (length buf.old) (length file - at)) × (take n buf.new ≡ bytes_at file at n))) }
@@ -54,13 +56,15 @@ pub fn read_some<V: Vault>(
     }
 }
 
-/// Fills a buffer from a place on, or answers false where the bytes end before.
+/// Fills a buffer from a place on, or answers false exactly where the bytes end before.
 pub fn fill<V: Vault>(vault: &mut V, f: FileId, at: u64, buf: &mut [u8]) -> Result<bool, Stopped>
     requires there { is_there (kept_of (V.view_of vault.old)) f.0 ≡ true }
     ensures same { kept_of (V.view_of vault.new) ≡ kept_of (V.view_of vault.old) }
     ensures later { (V.view_of vault.old).faults ≤ (V.view_of vault.new).faults }
+    ensures answered { IfOk result (λ _. (V.view_of vault.new).faults ≡ (V.view_of vault.old).faults) }
     ensures failed { IfErr result (λ e. IsCause e (V.view_of vault.old).faults (V.view_of vault.new).faults) }
     ensures whole { IfOk result (λ whole. Tells (bytes_in (kept_of (V.view_of vault.old)) f.0) (λ file. at + length buf.old ≤ length file → whole ≡ true)) }
+    ensures short { IfOk result (λ whole. Tells (bytes_in (kept_of (V.view_of vault.old)) f.0) (λ file. whole ≡ true → IsIn file at (length buf.old))) }
     ensures read { IfOk result (λ _. Tells (bytes_in (kept_of (V.view_of vault.old)) f.0) (λ file. at + length buf.old ≤ length file → buf.new ≡ bytes_at file at (length buf.old))) }
 {
     let n = read_some(vault, f, at, buf)?;
@@ -77,8 +81,10 @@ pub fn fill_some<V: Vault>(
     requires there { is_there (kept_of (V.view_of vault.old)) f.0 ≡ true }
     ensures same { kept_of (V.view_of vault.new) ≡ kept_of (V.view_of vault.old) }
     ensures later { (V.view_of vault.old).faults ≤ (V.view_of vault.new).faults }
+    ensures answered { IfOk result (λ _. (V.view_of vault.new).faults ≡ (V.view_of vault.old).faults) }
     ensures failed { IfErr result (λ e. IsCause e (V.view_of vault.old).faults (V.view_of vault.new).faults) }
     ensures whole { IfOk result (λ whole. Tells (bytes_in (kept_of (V.view_of vault.old)) f.0) (λ file. IsIn file at (length buf.old) → whole ≡ true)) }
+    ensures short { IfOk result (λ whole. Tells (bytes_in (kept_of (V.view_of vault.old)) f.0) (λ file. whole ≡ true → IsIn file at (length buf.old))) }
     ensures read { IfOk result (λ _. Tells (bytes_in (kept_of (V.view_of vault.old)) f.0) (λ file. IsIn file at (length buf.old) → buf.new ≡ bytes_at file at (length buf.old))) }
 {
     if buf.is_empty() {
@@ -102,6 +108,7 @@ pub fn hash_at<V: Vault>(
     requires ends { at + size < 2 ^ 64 }
     ensures same { kept_of (V.view_of vault.new) ≡ kept_of (V.view_of vault.old) }
     ensures later { (V.view_of vault.old).faults ≤ (V.view_of vault.new).faults }
+    ensures answered { IfOk result (λ _. (V.view_of vault.new).faults ≡ (V.view_of vault.old).faults) }
     ensures failed { IfErr result (λ e. IsCause e (V.view_of vault.old).faults (V.view_of vault.new).faults) }
     ensures hash { IfOk result (λ v. Tells (bytes_in (kept_of (V.view_of vault.old)) f.0) (λ file. IsIn file at size → v ≡ Some (hash_of (bytes_at file at size)))) }
 {
@@ -143,6 +150,7 @@ pub fn same_at<V: Vault>(
     requires b_ends { b + size < 2 ^ 64 }
     ensures same { kept_of (V.view_of vault.new) ≡ kept_of (V.view_of vault.old) }
     ensures later { (V.view_of vault.old).faults ≤ (V.view_of vault.new).faults }
+    ensures answered { IfOk result (λ _. (V.view_of vault.new).faults ≡ (V.view_of vault.old).faults) }
     ensures failed { IfErr result (λ e. IsCause e (V.view_of vault.old).faults (V.view_of vault.new).faults) }
     ensures answer { IfOk result (λ r. Tells (bytes_in (kept_of (V.view_of vault.old)) f.0) (λ file. IsIn file a size → IsIn file b size → r ≡ Some (bytes_eq (bytes_at file a size) (bytes_at file b size)))) }
 {

@@ -7,11 +7,12 @@ ghost use Rattle.gd_vault.specs.Views.Told.{Nothing};
 use gd_base::{Failed, Name};
 use gd_vault::{CreateError, FileId, Mode, Vault};
 
-/// Its file may be read, and nothing else may be done. The reads of it fail from one on.
+/// Its file may be read, and nothing else may be done. The reads of it fail from one on, and give `longest` bytes at most.
 #[derive(Drop)]
 pub struct SmallVault {
     pub bytes: Vec<u8>,
     pub reads_left: u64,
+    pub longest: usize,
     pub faults: u64,
 }
 
@@ -57,7 +58,7 @@ impl Vault for SmallVault {
             return Ok(0);
         }
         let rest = &bytes[at as usize..];
-        let n = rest.len().min(buf.len());
+        let n = rest.len().min(buf.len()).min(self.longest);
         buf[..n].copy_from_slice(&rest[..n]);
         Ok(n)
     }

@@ -7,7 +7,7 @@ ghost use Rattle.gd_format.specs.First.{first_below};
 ghost use Rattle.gd_format.specs.HeaderFault.{natural};
 ghost use Rattle.gd_format.specs.Bucket.{raw_slot_at};
 ghost use Rattle.gd_format.specs.File.{are_fields_right, is_record_in, is_other_key, is_key_of, is_key_new, is_slot_right, slot_fault, slots_fault, key_of, bits_at};
-ghost use Rattle.gd_readable.specs.Asks.{kept_of, bytes_in, is_there, Tells, IsCause, IsIn, is_of_file};
+ghost use Rattle.gd_readable.specs.Asks.{kept_of, bytes_in, is_there, Tells, IsCause, IsIn, is_of_readable};
 ghost use Rattle.gd_readable.specs.Checks.{HasKey, HaveKeys, SeesHashes};
 
 use crate::keys::{address, has_record_in, has_right_fields, hash_field, is_key_right, key_size};
@@ -32,6 +32,7 @@ fn is_start_at<V: Vault>(
     requires four { length start.now ≡ 4 }
     ensures same { kept_of (V.view_of vault.new) ≡ kept_of (V.view_of vault.old) }
     ensures later { (V.view_of vault.old).faults ≤ (V.view_of vault.new).faults }
+    ensures answered { IfOk result (λ _. (V.view_of vault.new).faults ≡ (V.view_of vault.old).faults) }
     ensures failed { IfErr result (λ e. IsCause e (V.view_of vault.old).faults (V.view_of vault.new).faults) }
     ensures answer { IfOk result (λ r. Tells (bytes_in (kept_of (V.view_of vault.old)) f.0) (λ file. 0 < size → at + size ≤ length file → r ≡ bytes_eq (take 4 (bytes_at file at size)) (take (length (take 4 (bytes_at file at size))) start.now))) }
 {
@@ -61,6 +62,7 @@ fn is_long_key_right<V: Vault>(
     requires some { 0 < natural raw.now.key_size }
     ensures same { kept_of (V.view_of vault.new) ≡ kept_of (V.view_of vault.old) }
     ensures later { (V.view_of vault.old).faults ≤ (V.view_of vault.new).faults }
+    ensures answered { IfOk result (λ _. (V.view_of vault.new).faults ≡ (V.view_of vault.old).faults) }
     ensures failed { IfErr result (λ e. IsCause e (V.view_of vault.old).faults (V.view_of vault.new).faults) }
     ensures answer { IfOk result (λ r. Tells (bytes_in (kept_of (V.view_of vault.old)) f.0) (λ file. IsIn file (natural raw.now.at) (natural raw.now.key_size) → r ≡ is_key_of bits top raw.now (key_of file raw.now))) }
 {
@@ -94,6 +96,7 @@ fn is_short_key_right<V: Vault>(
     requires bits { bits ≤ 24 }
     ensures same { kept_of (V.view_of vault.new) ≡ kept_of (V.view_of vault.old) }
     ensures later { (V.view_of vault.old).faults ≤ (V.view_of vault.new).faults }
+    ensures answered { IfOk result (λ _. (V.view_of vault.new).faults ≡ (V.view_of vault.old).faults) }
     ensures failed { IfErr result (λ e. IsCause e (V.view_of vault.old).faults (V.view_of vault.new).faults) }
     ensures answer { IfOk result (λ r. Tells (bytes_in (kept_of (V.view_of vault.old)) f.0) (λ file. IsIn file (natural raw.now.at) (natural raw.now.key_size) → r ≡ is_key_of bits top raw.now (key_of file raw.now))) }
 {
@@ -118,6 +121,7 @@ fn is_stored_key_right<V: Vault>(
     requires bits { bits ≤ 24 }
     ensures same { kept_of (V.view_of vault.new) ≡ kept_of (V.view_of vault.old) }
     ensures later { (V.view_of vault.old).faults ≤ (V.view_of vault.new).faults }
+    ensures answered { IfOk result (λ _. (V.view_of vault.new).faults ≡ (V.view_of vault.old).faults) }
     ensures failed { IfErr result (λ e. IsCause e (V.view_of vault.old).faults (V.view_of vault.new).faults) }
     ensures answer { IfOk result (λ r. Tells (bytes_in (kept_of (V.view_of vault.old)) f.0) (λ file. IsIn file (natural raw.now.at) (natural raw.now.key_size) → r ≡ is_key_of bits top raw.now (key_of file raw.now))) }
 {
@@ -143,6 +147,7 @@ fn have_same_key<V: Vault>(
     requires rooms { length two.old ≡ length one.old }
     ensures same { kept_of (V.view_of vault.new) ≡ kept_of (V.view_of vault.old) }
     ensures later { (V.view_of vault.old).faults ≤ (V.view_of vault.new).faults }
+    ensures answered { IfOk result (λ _. (V.view_of vault.new).faults ≡ (V.view_of vault.old).faults) }
     ensures failed { IfErr result (λ e. IsCause e (V.view_of vault.old).faults (V.view_of vault.new).faults) }
     ensures answer { IfOk result (λ r. Tells (bytes_in (kept_of (V.view_of vault.old)) f.0) (λ file. IsIn file (natural a.now.at) (natural a.now.key_size) → IsIn file (natural b.now.at) (natural b.now.key_size) → r ≡ Some (bytes_eq (key_of file a.now) (key_of file b.now)))) }
 {
@@ -174,6 +179,7 @@ fn has_other_key<V: Vault>(
     requires rooms { length two.old ≡ length one.old }
     ensures same { kept_of (V.view_of vault.new) ≡ kept_of (V.view_of vault.old) }
     ensures later { (V.view_of vault.old).faults ≤ (V.view_of vault.new).faults }
+    ensures answered { IfOk result (λ _. (V.view_of vault.new).faults ≡ (V.view_of vault.old).faults) }
     ensures failed { IfErr result (λ e. IsCause e (V.view_of vault.old).faults (V.view_of vault.new).faults) }
     ensures answer { IfOk result (λ r. Tells (bytes_in (kept_of (V.view_of vault.old)) f.0) (λ file. HasKey file raw.now → HaveKeys file block.now s → r ≡ is_other_key file block.now s t)) }
 {
@@ -208,6 +214,7 @@ fn differs_from_all<V: Vault>(
     requires rooms { length two.old ≡ length one.old }
     ensures same { kept_of (V.view_of vault.new) ≡ kept_of (V.view_of vault.old) }
     ensures later { (V.view_of vault.old).faults ≤ (V.view_of vault.new).faults }
+    ensures answered { IfOk result (λ _. (V.view_of vault.new).faults ≡ (V.view_of vault.old).faults) }
     ensures failed { IfErr result (λ e. IsCause e (V.view_of vault.old).faults (V.view_of vault.new).faults) }
     ensures answer { IfOk result (λ r. Tells (bytes_in (kept_of (V.view_of vault.old)) f.0) (λ file. HasKey file raw.now → HaveKeys file block.now s → r ≡ is_key_new file block.now s)) }
 {
@@ -238,6 +245,7 @@ fn has_new_key<V: Vault>(
     requires rooms { length two.old ≡ length one.old }
     ensures same { kept_of (V.view_of vault.new) ≡ kept_of (V.view_of vault.old) }
     ensures later { (V.view_of vault.old).faults ≤ (V.view_of vault.new).faults }
+    ensures answered { IfOk result (λ _. (V.view_of vault.new).faults ≡ (V.view_of vault.old).faults) }
     ensures failed { IfErr result (λ e. IsCause e (V.view_of vault.old).faults (V.view_of vault.new).faults) }
     ensures answer { IfOk result (λ r. Tells (bytes_in (kept_of (V.view_of vault.old)) f.0) (λ file. HasKey file raw.now → HaveKeys file block.now s → r ≡ is_key_new file block.now s)) }
     ensures seen { IfOk result (λ _. SeesHashes seen.new block.now (s + 1)) }
@@ -265,6 +273,7 @@ fn has_right_record<V: Vault>(
     requires bits { bits ≤ 24 }
     ensures same { kept_of (V.view_of vault.new) ≡ kept_of (V.view_of vault.old) }
     ensures later { (V.view_of vault.old).faults ≤ (V.view_of vault.new).faults }
+    ensures answered { IfOk result (λ _. (V.view_of vault.new).faults ≡ (V.view_of vault.old).faults) }
     ensures failed { IfErr result (λ e. IsCause e (V.view_of vault.old).faults (V.view_of vault.new).faults) }
     ensures answer { IfOk result (λ r. Tells (bytes_in (kept_of (V.view_of vault.old)) f.0) (λ file. length file ≡ len → r ≡ (are_fields_right raw.now && is_record_in (length file) raw.now && is_key_of bits top raw.now (key_of file raw.now)))) }
     ensures key { IfOk result (λ r. Tells (bytes_in (kept_of (V.view_of vault.old)) f.0) (λ file. length file ≡ len → r ≡ true → HasKey file raw.now)) }
@@ -301,8 +310,9 @@ fn slot_refusal<V: Vault>(
     requires rooms { length two.old ≡ length one.old }
     ensures same { kept_of (V.view_of vault.new) ≡ kept_of (V.view_of vault.old) }
     ensures later { (V.view_of vault.old).faults ≤ (V.view_of vault.new).faults }
+    ensures answered { IfOk result (λ _. (V.view_of vault.new).faults ≡ (V.view_of vault.old).faults) }
     ensures failed { IfErr result (λ e. IsCause e (V.view_of vault.old).faults (V.view_of vault.new).faults) }
-    ensures kind { IfOk result (λ r. IfSome r (λ e. is_of_file e ≡ true)) }
+    ensures kind { IfOk result (λ r. IfSome r (λ e. is_of_readable e ≡ true)) }
     ensures refusal { IfOk result (λ r. Tells (bytes_in (kept_of (V.view_of vault.old)) f.0) (λ file. length file ≡ len → HaveKeys file block.now s → r ≡ slot_fault file block.now at top s)) }
     ensures keys { IfOk result (λ r. Tells (bytes_in (kept_of (V.view_of vault.old)) f.0) (λ file. length file ≡ len → HaveKeys file block.now s → r ≡ None → HaveKeys file block.now (s + 1))) }
     ensures seen { IfOk result (λ r. r ≡ None → SeesHashes seen.new block.now (s + 1)) }
@@ -343,8 +353,9 @@ fn wrong_slot<V: Vault>(
     requires rooms { length two.old ≡ length one.old }
     ensures same { kept_of (V.view_of vault.new) ≡ kept_of (V.view_of vault.old) }
     ensures later { (V.view_of vault.old).faults ≤ (V.view_of vault.new).faults }
+    ensures answered { IfOk result (λ _. (V.view_of vault.new).faults ≡ (V.view_of vault.old).faults) }
     ensures failed { IfErr result (λ e. IsCause e (V.view_of vault.old).faults (V.view_of vault.new).faults) }
-    ensures kind { IfOk result (λ r. IfSome r (λ e. is_of_file e ≡ true)) }
+    ensures kind { IfOk result (λ r. IfSome r (λ e. is_of_readable e ≡ true)) }
     ensures refusal { IfOk result (λ r. Tells (bytes_in (kept_of (V.view_of vault.old)) f.0) (λ file. length file ≡ len → r ≡ first_below elems (slot_fault file block.now at top))) }
 {
     let mut seen = HashSet::new(alloc);
@@ -378,8 +389,9 @@ pub fn slots_refusal<V: Vault>(
     requires rooms { length two.old ≡ length one.old }
     ensures same { kept_of (V.view_of vault.new) ≡ kept_of (V.view_of vault.old) }
     ensures later { (V.view_of vault.old).faults ≤ (V.view_of vault.new).faults }
+    ensures answered { IfOk result (λ _. (V.view_of vault.new).faults ≡ (V.view_of vault.old).faults) }
     ensures failed { IfErr result (λ e. IsCause e (V.view_of vault.old).faults (V.view_of vault.new).faults) }
-    ensures kind { IfOk result (λ r. IfSome r (λ e. is_of_file e ≡ true)) }
+    ensures kind { IfOk result (λ r. IfSome r (λ e. is_of_readable e ≡ true)) }
     ensures refusal { IfOk result (λ r. Tells (bytes_in (kept_of (V.view_of vault.old)) f.0) (λ file. length file ≡ len → r ≡ slots_fault file elems block.now at top)) }
 {
     if !has_right_count(block, elems) {

@@ -1,5 +1,5 @@
 use crate::small_vault::SmallVault;
-use crate::{Records, Walk, check, file_refusal, readable};
+use crate::{Records, Stopped, Walk, check, file_refusal, fill, readable};
 use gd_base::DbError;
 use gd_vault::FileId;
 use std::alloc::Global;
@@ -138,6 +138,7 @@ fn vault_of(rt: &impl Abort, alloc: Global, file: &[u8], reads: u64) -> Option<S
         Ok(bytes) => Some(SmallVault {
             bytes,
             reads_left: reads,
+            longest: usize::MAX,
             faults: 0,
         }),
         Err(_) => {
@@ -162,6 +163,9 @@ fn walk_gives(rt: &impl Abort, alloc: Global, vault: &mut SmallVault, row: &Row)
             }
             let end = walk.next(vault).is_ok_and(|next| next.is_none());
             assert!(rt; end, "{}", row.name);
+            vault.reads_left = 0;
+            let again = walk.next(vault).is_ok_and(|next| next.is_none());
+            assert!(rt; again, "{}", row.name);
             assert!(rt; row.refusal.is_none(), "{}", row.name);
         }
         Err(e) => assert_eq!(rt; Some(e), row.refusal, "{}", row.name),
@@ -425,5 +429,64 @@ fn each_read_that_fails_is_a_fault_of_the_vault(rt: HostRuntime) -> Result<(), F
         }
     }
     assert!(&rt; readable_after.is_some());
+    Ok(())
+}
+
+// Over a vault whose reads give so many bytes at most, a file of one record is answered this.
+fn answers_short(
+    rt: &impl Abort,
+    vault: &mut SmallVault,
+    longest: usize,
+    refusal: Option<DbError>,
+) {
+    vault.longest = longest;
+    match readable(*vault.bytes.allocator(), vault, FileId(0)) {
+        Ok(_) => assert!(rt; refusal.is_none(), "{longest}"),
+        Err(e) => assert_eq!(rt; Some(e), refusal, "{longest}"),
+    }
+}
+
+// Does the vault fill four bytes from a place on?
+#[tactic(auto, unfolding(crate::specs::Asks::is_there, crate::specs::Asks::kept_of))]
+fn is_filled(vault: &mut SmallVault, at: u64) -> Result<bool, Stopped> {
+    let mut four = [0; 4];
+    fill(vault, FileId(0), at, &mut four)
+}
+
+#[test]
+fn a_read_that_is_too_short_fails_the_check(rt: HostRuntime) -> Result<(), Fail> {
+    let whole = one_record(&rt);
+    let Some(file) = whole.get(..1538) else {
+        return Ok(());
+    };
+    let Some(mut vault) = vault_of(&rt, rt.alloc(), file, 1 << 20) else {
+        return Ok(());
+    };
+    let rows = [
+        (7, Some(DbError::ShortFile)),
+        (79, Some(DbError::ShortFile)),
+        (80, Some(DbError::BadDirEntry(0))),
+        (511, Some(DbError::BadDirEntry(0))),
+        (512, None),
+    ];
+    for (longest, refusal) in rows {
+        answers_short(&rt, &mut vault, longest, refusal);
+    }
+    let Ok(header) = readable(rt.alloc(), &mut vault, FileId(0)) else {
+        return Ok(());
+    };
+    let Ok(mut walk) = Walk::start(rt.alloc(), &mut vault, FileId(0), &header) else {
+        return Ok(());
+    };
+    for longest in [1, 511] {
+        vault.longest = longest;
+        let next = walk.next(&mut vault);
+        assert!(&rt; next.is_err_and(|e| e == DbError::BadDirEntry(0)));
+    }
+    for (longest, at, whole) in [(3, 1534, false), (4, 1534, true), (4, 1535, false)] {
+        vault.longest = longest;
+        assert!(&rt; is_filled(&mut vault, at) == Ok(whole));
+    }
+    assert!(&rt; vault.faults == 0);
     Ok(())
 }

@@ -1,6 +1,6 @@
 //! The walk over the records of a readable file of a vault.
 
-ghost use Rattle.std.specs.Prelude.{◌≡◌, ◌+◌, ◌*◌, ◌<◌, ◌≤◌, ◌^◌, true, None, Some, [], ◌∷◌, length, take, drop, IfOk, IfErr, IfNone, IfSome, IsSome};
+ghost use Rattle.std.specs.Prelude.{◌≡◌, ◌+◌, ◌*◌, ◌<◌, ◌≤◌, ◌^◌, true, false, Ok, None, Some, [], ◌∷◌, length, take, drop, IfOk, IfErr, IfNone, IfSome, IsSome};
 ghost use Rattle.gd_format.specs.Field.{bytes_at};
 ghost use Rattle.gd_format.specs.HeaderFault.{header_of, natural};
 ghost use Rattle.gd_format.specs.Headers.{IsHeader};
@@ -8,10 +8,10 @@ ghost use Rattle.gd_format.specs.File.{are_fields_right, block_of, dir_fault, en
 ghost use Rattle.gd_base.specs.Causes.{Rose};
 ghost use Rattle.gd_vault.specs.Content.{File};
 ghost use Rattle.gd_vault.specs.Views.{HasFile, IsAt, OnlyAsks};
-ghost use Rattle.gd_readable.specs.Asks.{kept_of, bytes_in, is_there, Tells, IsCause, Refuses, error_of, RefusesWalk};
+ghost use Rattle.gd_readable.specs.Asks.{kept_of, bytes_in, is_there, Tells, IsCause, Refuses, error_of, RefusesWalk, IsAnswer, Counts, is_of_bucket};
 ghost use Rattle.gd_readable.specs.Checks.{IsHeaderIn};
 ghost use Rattle.gd_readable.specs.Left.{passing_from, slots_left, buckets_left, records_left, IsWalk};
-ghost use Rattle.gd_readable.specs.Standing.{StandsIn, left_of, place_of, FitsWalk, slots_ahead, slots_of_walk};
+ghost use Rattle.gd_readable.specs.Standing.{StandsIn, left_of, place_of, FitsWalk, slots_ahead, slots_of_walk, IsAtEnd, IsEnded};
 
 use crate::keys::{address, has_right_fields, key_size, value_size};
 use crate::reading::{Stopped, fill, fill_some};
@@ -42,6 +42,7 @@ fn walk_entry<V: Vault>(vault: &mut V, f: FileId, header: &Header, i: u64) -> Re
     requires within { i < 2 ^ header.now.dir_bits }
     ensures same { kept_of (V.view_of vault.new) ≡ kept_of (V.view_of vault.old) }
     ensures later { (V.view_of vault.old).faults ≤ (V.view_of vault.new).faults }
+    ensures answered { IfOk result (λ _. (V.view_of vault.new).faults ≡ (V.view_of vault.old).faults) }
     ensures failed { IfErr result (λ e. IsCause e (V.view_of vault.old).faults (V.view_of vault.new).faults) }
     ensures entry { IfOk result (λ r. Tells (bytes_in (kept_of (V.view_of vault.old)) f.0) (λ file. header.now.dir + 8 * (i + 1) ≤ length file → r ≡ entry_at file header.now i)) }
 {
@@ -62,6 +63,7 @@ fn is_first_at<V: Vault>(vault: &mut V, f: FileId, header: &Header, i: u64) -> R
     requires few { i < 2 ^ 24 }
     ensures same { kept_of (V.view_of vault.new) ≡ kept_of (V.view_of vault.old) }
     ensures later { (V.view_of vault.old).faults ≤ (V.view_of vault.new).faults }
+    ensures answered { IfOk result (λ _. (V.view_of vault.new).faults ≡ (V.view_of vault.old).faults) }
     ensures failed { IfErr result (λ e. IsCause e (V.view_of vault.old).faults (V.view_of vault.new).faults) }
     ensures first { IfOk result (λ r. Tells (bytes_in (kept_of (V.view_of vault.old)) f.0) (λ file. IsHeaderIn header.now (length file) → dir_fault file header.now ≡ None → r ≡ is_first file header.now i)) }
 {
@@ -87,6 +89,7 @@ fn next_first_at<V: Vault>(
     requires entry { from ≤ 2 ^ header.now.dir_bits }
     ensures same { kept_of (V.view_of vault.new) ≡ kept_of (V.view_of vault.old) }
     ensures later { (V.view_of vault.old).faults ≤ (V.view_of vault.new).faults }
+    ensures answered { IfOk result (λ _. (V.view_of vault.new).faults ≡ (V.view_of vault.old).faults) }
     ensures failed { IfErr result (λ e. IsCause e (V.view_of vault.old).faults (V.view_of vault.new).faults) }
     ensures range { IfOk result (λ r. IfSome r (λ i. (from ≤ i) × (i < entries_of header.now) × (i < 2 ^ 24))) }
     ensures some { IfOk result (λ r. IfSome r (λ i. Tells (bytes_in (kept_of (V.view_of vault.old)) f.0) (λ file. IsHeaderIn header.now (length file) → dir_fault file header.now ≡ None → passing_from (is_first file header.now) (entries_of header.now) from ≡ i ∷ passing_from (is_first file header.now) (entries_of header.now) (i + 1)))) }
@@ -125,6 +128,7 @@ fn entry_place<V: Vault>(
     requires within { i < entries_of header.now }
     ensures same { kept_of (V.view_of vault.new) ≡ kept_of (V.view_of vault.old) }
     ensures later { (V.view_of vault.old).faults ≤ (V.view_of vault.new).faults }
+    ensures answered { IfOk result (λ _. (V.view_of vault.new).faults ≡ (V.view_of vault.old).faults) }
     ensures failed { IfErr result (λ e. IsCause e (V.view_of vault.old).faults (V.view_of vault.new).faults) }
     ensures place { IfOk result (λ r. Tells (bytes_in (kept_of (V.view_of vault.old)) f.0) (λ file. IsHeaderIn header.now (length file) → dir_fault file header.now ≡ None → r ≡ Some (natural (entry_at file header.now i)))) }
 {
@@ -149,6 +153,7 @@ fn enter_bucket<V: Vault>(
     requires size { length block.old ≡ header.now.block }
     ensures same { kept_of (V.view_of vault.new) ≡ kept_of (V.view_of vault.old) }
     ensures later { (V.view_of vault.old).faults ≤ (V.view_of vault.new).faults }
+    ensures answered { IfOk result (λ _. (V.view_of vault.new).faults ≡ (V.view_of vault.old).faults) }
     ensures failed { IfErr result (λ e. IsCause e (V.view_of vault.old).faults (V.view_of vault.new).faults) }
     ensures whole { IfOk result (λ r. Tells (bytes_in (kept_of (V.view_of vault.old)) f.0) (λ file. IsHeaderIn header.now (length file) → dir_fault file header.now ≡ None → IsSome r)) }
     ensures block { IfOk result (λ r. IfSome r (λ _. Tells (bytes_in (kept_of (V.view_of vault.old)) f.0) (λ file. IsHeaderIn header.now (length file) → dir_fault file header.now ≡ None → block.new ≡ block_of file header.now i))) }
@@ -175,6 +180,7 @@ fn record_bytes<V: Vault>(
     requires there { is_there (kept_of (V.view_of vault.old)) f.0 ≡ true }
     ensures same { kept_of (V.view_of vault.new) ≡ kept_of (V.view_of vault.old) }
     ensures later { (V.view_of vault.old).faults ≤ (V.view_of vault.new).faults }
+    ensures answered { IfOk result (λ _. (V.view_of vault.new).faults ≡ (V.view_of vault.old).faults) }
     ensures failed { IfErr result (λ e. IsCause e (V.view_of vault.old).faults (V.view_of vault.new).faults) }
     ensures whole { IfOk result (λ r. Tells (bytes_in (kept_of (V.view_of vault.old)) f.0) (λ file. is_record_in (length file) raw.now ≡ true → IsSome r)) }
     ensures bytes { IfOk result (λ r. IfSome r (λ v. Tells (bytes_in (kept_of (V.view_of vault.old)) f.0) (λ file. is_record_in (length file) raw.now ≡ true → v.items ≡ bytes_at file (natural raw.now.at) (size_of raw.now)))) }
@@ -218,6 +224,7 @@ fn read_pair<V: Vault>(
     requires there { is_there (kept_of (V.view_of vault.old)) f.0 ≡ true }
     ensures same { kept_of (V.view_of vault.new) ≡ kept_of (V.view_of vault.old) }
     ensures later { (V.view_of vault.old).faults ≤ (V.view_of vault.new).faults }
+    ensures answered { IfOk result (λ _. (V.view_of vault.new).faults ≡ (V.view_of vault.old).faults) }
     ensures failed { IfErr result (λ e. IsCause e (V.view_of vault.old).faults (V.view_of vault.new).faults) }
     ensures whole { IfOk result (λ r. Tells (bytes_in (kept_of (V.view_of vault.old)) f.0) (λ file. are_fields_right raw.now ≡ true → is_record_in (length file) raw.now ≡ true → IsSome r)) }
     ensures pair { IfOk result (λ r. IfSome r (λ p. Tells (bytes_in (kept_of (V.view_of vault.old)) f.0) (λ file. is_record_in (length file) raw.now ≡ true → (p.0 ≡ key_of file raw.now) × (p.1 ≡ value_of file raw.now)))) }
@@ -253,6 +260,9 @@ fn next_in_block<V: Vault>(
     requires slot { slot ≤ header.now.elems }
     ensures same { kept_of (V.view_of vault.new) ≡ kept_of (V.view_of vault.old) }
     ensures later { (V.view_of vault.old).faults ≤ (V.view_of vault.new).faults }
+    ensures answered { IfOk result (λ _. (V.view_of vault.new).faults ≡ (V.view_of vault.old).faults) }
+    ensures kind { IfErr result (λ e. IsAnswer is_of_bucket e) }
+    ensures counted { IfErr result (λ e. Counts e (V.view_of vault.old).faults (V.view_of vault.new).faults) }
     ensures failed { IfErr result (λ e. Refuses e (Rose (V.view_of vault.old).faults (V.view_of vault.new).faults) (Tells (bytes_in (kept_of (V.view_of vault.old)) f.0) (λ file. ¬ IsWalk file header.now entry block.now slot))) }
     ensures range { IfOk result (λ r. IfSome r (λ p. (slot < p.0) × (p.0 ≤ header.now.elems))) }
     ensures some { IfOk result (λ r. IfSome r (λ p. Tells (bytes_in (kept_of (V.view_of vault.old)) f.0) (λ file. IsWalk file header.now entry block.now slot → (slots_left file header.now.elems block.now slot ≡ (p.1.0, p.1.1) ∷ slots_left file header.now.elems block.now p.0) × IsWalk file header.now entry block.now p.0))) }
@@ -285,6 +295,9 @@ fn next_block<V: Vault>(
     requires size { length block.old ≡ header.now.block }
     ensures same { kept_of (V.view_of vault.new) ≡ kept_of (V.view_of vault.old) }
     ensures later { (V.view_of vault.old).faults ≤ (V.view_of vault.new).faults }
+    ensures answered { IfOk result (λ _. (V.view_of vault.new).faults ≡ (V.view_of vault.old).faults) }
+    ensures kind { IfErr result (λ e. IsAnswer is_of_bucket e) }
+    ensures counted { IfErr result (λ e. Counts e (V.view_of vault.old).faults (V.view_of vault.new).faults) }
     ensures failed { IfErr result (λ e. Refuses e (Rose (V.view_of vault.old).faults (V.view_of vault.new).faults) (Tells (bytes_in (kept_of (V.view_of vault.old)) f.0) (λ file. ¬ IsWalk file header.now entry block.old slot))) }
     ensures range { IfOk result (λ r. IfSome r (λ p. (entry < p.0) × (p.0 ≤ entries_of header.now))) }
     ensures some { IfOk result (λ r. IfSome r (λ p. Tells (bytes_in (kept_of (V.view_of vault.old)) f.0) (λ file. IsWalk file header.now entry block.old slot → (buckets_left file header.now entry ≡ records_left file header.now p.0 block.new 0) × IsWalk file header.now p.0 block.new 0))) }
@@ -311,7 +324,16 @@ struct Place {
     slot: u32,
 }
 
-// The next record from a place on, which goes behind it.
+// Does a walk stand behind the last bucket?
+fn is_at_end(header: &Header, entry: u64, slot: u32) -> bool
+    requires { header.now.dir_bits ≤ 24 }
+    ensures end { result ≡ true → IsAtEnd header.now entry slot }
+    ensures before { result ≡ false → ¬ IsAtEnd header.now entry slot }
+{
+    entry == 1u64 << header.dir_bits && slot == header.elems
+}
+
+// The next record from a place on, which goes behind it, or to the end behind the last one.
 #[tactic(auto, using(crate::proofs::Ahead::ahead_slot))]
 fn next_from<V: Vault>(
     alloc: Global,
@@ -324,14 +346,22 @@ fn next_from<V: Vault>(
     requires fits { FitsWalk header.now place.old.entry place.old.block.items place.old.slot }
     ensures same { kept_of (V.view_of vault.new) ≡ kept_of (V.view_of vault.old) }
     ensures later { (V.view_of vault.old).faults ≤ (V.view_of vault.new).faults }
+    ensures answered { IfOk result (λ _. (V.view_of vault.new).faults ≡ (V.view_of vault.old).faults) }
+    ensures kind { IfErr result (λ e. IsAnswer is_of_bucket e) }
+    ensures counted { IfErr result (λ e. Counts e (V.view_of vault.old).faults (V.view_of vault.new).faults) }
     ensures fits { FitsWalk header.now place.new.entry place.new.block.items place.new.slot }
     ensures walk { Tells (bytes_in (kept_of (V.view_of vault.old)) f.0) (λ file. IsWalk file header.now place.old.entry place.old.block.items place.old.slot → IsWalk file header.now place.new.entry place.new.block.items place.new.slot) }
     ensures some { IfOk result (λ r. IfSome r (λ p. Tells (bytes_in (kept_of (V.view_of vault.old)) f.0) (λ file. IsWalk file header.now place.old.entry place.old.block.items place.old.slot → records_left file header.now place.old.entry place.old.block.items place.old.slot ≡ (p.0, p.1) ∷ records_left file header.now place.new.entry place.new.block.items place.new.slot))) }
     ensures further { IfOk result (λ r. IfSome r (λ _. slots_ahead header.now place.new.entry place.new.slot < slots_ahead header.now place.old.entry place.old.slot)) }
     ensures none { IfOk result (λ r. IfNone r (Tells (bytes_in (kept_of (V.view_of vault.old)) f.0) (λ file. IsWalk file header.now place.old.entry place.old.block.items place.old.slot → records_left file header.now place.old.entry place.old.block.items place.old.slot ≡ []))) }
+    ensures end { IfOk result (λ r. IfNone r (IsAtEnd header.now place.new.entry place.new.slot)) }
+    ensures ended { IsAtEnd header.now place.old.entry place.old.slot → (result ≡ Ok None) × (place.new ≡ place.old) }
     ensures failed { IfErr result (λ e. Refuses e (Rose (V.view_of vault.old).faults (V.view_of vault.new).faults) (Tells (bytes_in (kept_of (V.view_of vault.old)) f.0) (λ file. ¬ IsWalk file header.now place.old.entry place.old.block.items place.old.slot))) }
     ensures again { IfErr result (λ _. Tells (bytes_in (kept_of (V.view_of vault.old)) f.0) (λ file. IsWalk file header.now place.old.entry place.old.block.items place.old.slot → records_left file header.now place.new.entry place.new.block.items place.new.slot ≡ records_left file header.now place.old.entry place.old.block.items place.old.slot)) }
 {
+    if is_at_end(header, place.entry, place.slot) {
+        return Ok(None);
+    }
     'buckets: loop {
         let found = match next_in_block(
             alloc,
@@ -363,6 +393,7 @@ fn next_from<V: Vault>(
             Err(e) => return Err(e),
         };
         let Some(next) = entered else {
+            place.entry = 1u64 << header.dir_bits;
             return Ok(None);
         };
         place.entry = next.0;
@@ -407,6 +438,9 @@ impl Walk {
         ensures stands { IfOk result (λ w. IsAt (V.view_of vault.old) (λ c. (x : File) → c.files f.0 ≡ Some x → StandsIn x.bytes w)) }
         ensures records { IfOk result (λ w. IsAt (V.view_of vault.old) (λ c. (x : File) → c.files f.0 ≡ Some x → left_of x.bytes w ≡ records x.bytes)) }
         ensures refused { IfErr result (λ e. RefusesWalk e (V.view_of vault.old) (V.view_of vault.new)) }
+        ensures kind { IfErr result (λ e. IsAnswer is_of_bucket e) }
+        ensures answered { IfOk result (λ _. (V.view_of vault.new).faults ≡ (V.view_of vault.old).faults) }
+        ensures counted { IfErr result (λ e. Counts e (V.view_of vault.old).faults (V.view_of vault.new).faults) }
     {
         let Ok(block) = vec![in alloc; 0u8; header.block as usize] else {
             return Err(DbError::OutOfMemory);
@@ -423,8 +457,8 @@ impl Walk {
         })
     }
 
-    /// The key and the value of the next record, or None behind the last one. After a fault or without memory the same
-    /// record comes again.
+    /// The key and the value of the next record, or None behind the last one, where the walk stays. After a fault or
+    /// without memory the same record comes again.
     pub fn next<V: Vault>(&mut self, vault: &mut V) -> Result<Option<(Datum, Datum)>, DbError>
         requires there { HasFile (V.view_of vault.old) self.old.f }
         requires same { IsAt (V.view_of vault.old) (λ c. (x : File) → c.files self.old.f ≡ Some x → StandsIn x.bytes self.old) }
@@ -434,7 +468,12 @@ impl Walk {
         ensures some { IfOk result (λ r. IfSome r (λ p. IsAt (V.view_of vault.old) (λ c. (x : File) → c.files self.old.f ≡ Some x → left_of x.bytes self.old ≡ (p.0, p.1) ∷ left_of x.bytes self.new))) }
         ensures further { IfOk result (λ r. IfSome r (λ _. slots_of_walk self.new < slots_of_walk self.old)) }
         ensures none { IfOk result (λ r. IfNone r (IsAt (V.view_of vault.old) (λ c. (x : File) → c.files self.old.f ≡ Some x → left_of x.bytes self.old ≡ []))) }
+        ensures end { IfOk result (λ r. IfNone r (IsEnded self.new)) }
+        ensures ended { IsEnded self.old → (result ≡ Ok None) × (self.new ≡ self.old) }
         ensures refused { IfErr result (λ e. RefusesWalk e (V.view_of vault.old) (V.view_of vault.new)) }
+        ensures kind { IfErr result (λ e. IsAnswer is_of_bucket e) }
+        ensures answered { IfOk result (λ _. (V.view_of vault.new).faults ≡ (V.view_of vault.old).faults) }
+        ensures counted { IfErr result (λ e. Counts e (V.view_of vault.old).faults (V.view_of vault.new).faults) }
         ensures again { IfErr result (λ _. IsAt (V.view_of vault.old) (λ c. (x : File) → c.files self.old.f ≡ Some x → left_of x.bytes self.new ≡ left_of x.bytes self.old)) }
     {
         let alloc = *self.place.block.allocator();

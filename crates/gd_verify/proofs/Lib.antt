@@ -2,6 +2,7 @@ pub mod Lists
 pub mod Chains
 pub mod Covers
 pub mod Meets
+pub mod Fewer
 pub mod Numbers
 pub mod Stacks
 pub mod Placing

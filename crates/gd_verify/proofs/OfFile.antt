@@ -10,18 +10,18 @@ use Rattle.gd_format.specs.HeaderFault.{header_fault_of, header_of, natural}
 use Rattle.gd_format.specs.Avail.{is_avail}
 use Rattle.gd_format.specs.File.{are_counts_right, block_of, dir_fault, entries_fault, entries_of, entry_at, entry_fault, file_fault, front_of, is_block_in, is_count_right, is_first, is_full_at, is_slot_right, places_of, reach_fault, run_at, run_fault, slot_fault, slots_fault}
 use Rattle.gd_format.specs.Sound.{extents_held, free_fault, is_free_right, is_other_block, is_stack_block, meet_fault, meets_none, most_of, place_of, sound_fault, space_fault, stack_at, stack_fault, stack_fault_at, table_of, top_of}
-use Rattle.gd_readable.specs.Asks.{is_of_file}
-use Rattle.gd_readable.proofs.Refusals.{header_kind, reach_kind}
+use Rattle.gd_readable.specs.Asks.{is_of_sound}
+use Rattle.gd_readable.proofs.Refusals.{header_kind, reach_kind, sound_kind as also_sound}
 use Rattle.gd_verify.specs.Known.{free_fault_at}
 
 -- each error that an option has speaks of the file
 abbrev AllOfFile : Option DbError → Type 0
-AllOfFile o = (d : DbError) → o ≡ Some d → is_of_file d ≡ true
+AllOfFile o = (d : DbError) → o ≡ Some d → is_of_sound d ≡ true
 
 none_kind : AllOfFile None
 none_kind d is = absurd cc
 
-unless_kind : (b : Bool) (e : DbError) → is_of_file e ≡ true → AllOfFile (unless b e)
+unless_kind : (b : Bool) (e : DbError) → is_of_sound e ≡ true → AllOfFile (unless b e)
 unless_kind true e h d is = absurd cc
 unless_kind false e h d is = let same : e ≡ d = cc in rw same at h
 
@@ -40,7 +40,7 @@ meet_kind next before (k ∷ ks) d is =
     or_kind (unless (nat_le (k.extent.at + k.extent.size) next && meets_none k.extent before) (BadAvail k.by)) (meet_fault next (before ++ k ∷ []) ks)
     (unless_kind (nat_le (k.extent.at + k.extent.size) next && meets_none k.extent before) (BadAvail k.by) refl) (meet_kind next (before ++ k ∷ []) ks) d is
 
-pub refusal_kind : (r : Option DbError) (next : ℕ) (list : List Held) → r ≡ meet_fault next [] list → IfSome r (λ e. is_of_file e ≡ true)
+pub refusal_kind : (r : Option DbError) (next : ℕ) (list : List Held) → r ≡ meet_fault next [] list → IfSome r (λ e. is_of_sound e ≡ true)
 refusal_kind None next list is = tt
 refusal_kind (Some e) next list is = meet_kind next [] list e (sym is)
 
@@ -58,7 +58,7 @@ module _ (file : List ℕ) where
       (unless_kind (is_count_right block elems) (BadHashTable a) refl)
       (or_kind (first_below elems (slot_fault file block a top)) (or_else (first_below elems (reach_fault block elems a)) None)
       (below_kind elems (slot_fault file block a top) (slot_kind block a top))
-      (or_kind (first_below elems (reach_fault block elems a)) None (reach_kind block elems a) none_kind))
+      (or_kind (first_below elems (reach_fault block elems a)) None (λ d is. also_sound d (reach_kind block elems a d is)) none_kind))
 
   module _ (h : Header) where
     run_kind : (i j : ℕ) → AllOfFile (run_fault file h i j)
@@ -95,7 +95,7 @@ module _ (file : List ℕ) where
 
   pub file_kind : AllOfFile (file_fault file)
   unfolding file_fault
-  file_kind = or_kind (header_fault_of (front_of file) (length file)) (dir_fault file (header_of (front_of file))) (header_kind (front_of file) (length file)) (dir_kind (header_of (front_of file)))
+  file_kind = or_kind (header_fault_of (front_of file) (length file)) (dir_fault file (header_of (front_of file))) (λ d is. also_sound d (header_kind (front_of file) (length file) d is)) (dir_kind (header_of (front_of file)))
 
   -- ---- of a readable file that is not sound
 
@@ -128,6 +128,6 @@ module _ (file : List ℕ) where
       (or_kind meet None (meet_kind h.next_block [] (extents_held file h)) none_kind))))
 
   -- the first refusal of a file that is opened to write
-  pub sound_kind : (d : DbError) → sound_fault file ≡ Some d → is_of_file d ≡ true
+  pub sound_kind : (d : DbError) → sound_fault file ≡ Some d → is_of_sound d ≡ true
   unfolding sound_fault
   sound_kind d is = or_kind (file_fault file) (space_fault file (header_of (front_of file))) file_kind (space_kind (header_of (front_of file))) d is

@@ -14,7 +14,7 @@ use Rattle.gd_format.specs.HeaderFault.{dir_size_of}
 use Rattle.gd_format.specs.Avail.{is_avail}
 use Rattle.gd_format.specs.File.{places_of}
 use Rattle.gd_format.specs.Sound.{bucket_held, extents_held, free_fault, free_held, itself, meet_fault, most_of, place_of, records_held, space_fault, stack_fault, stack_held, stack_places, table_held, table_of, top_of}
-use Rattle.gd_verify.specs.Apart.{IsPlain}
+use Rattle.gd_verify.specs.Apart.{IsPlain, MeetsAlike}
 use Rattle.gd_verify.specs.Known.{free_fault_at}
 use Rattle.gd_verify.specs.Refused.{all_held, blocks_fault, blocks_held, extents_fault, fixed_held}
 
@@ -82,10 +82,10 @@ module _ (file : List ℕ) (h : Header) where
       let long = le-leb (length file) h.next_block le in
       rw long (first_of_two (unless (is_avail (table_of file h) h.avail_size) (BadAvail (place_of h))) (stack_fault file (most_of h) (top_of file h)) (or_else (free_fault file h) (or_else (meet_fault h.next_block [] (extents_held file h)) None)) e fault)
 
-  pub order_rest : (space : List Held) (r : Option DbError) → length file ≤ h.next_block → None ≡ blocks_fault file h → space ≡ blocks_held file h → r ≡ extents_fault file h space → r ≡ space_fault file h
+  pub order_rest : (space : List Held) (r : Option DbError) → length file ≤ h.next_block → None ≡ blocks_fault file h → MeetsAlike (blocks_held file h) space → r ≡ extents_fault file h space → r ≡ space_fault file h
   unfolding space_fault
-  order_rest space r le none is e =
+  order_rest space r le none alike e =
       let long = le-leb (length file) h.next_block le in
-      let all : all_held file h space ≡ extents_held file h = ap (all_held file h) is ∙ sym held_is in
-      e ∙ ap (λ (xs : List Held). or_else (free_fault file h) (meet_fault h.next_block [] xs)) all
+      let meet : meet_fault h.next_block [] (all_held file h space) ≡ meet_fault h.next_block [] (extents_held file h) = alike.same h.next_block (fixed_held h (places_of file h) ++ flat_map (records_held file h) (places_of file h)) (flat_map (free_held file h) (places_of file h)) ∙ ap (meet_fault h.next_block []) (sym held_is) in
+      e ∙ ap (or_else (free_fault file h)) meet
       ∙ rw long (none_of_two (unless (is_avail (table_of file h) h.avail_size) (BadAvail (place_of h))) (stack_fault file (most_of h) (top_of file h)) (free_fault file h) (meet_fault h.next_block [] (extents_held file h)) (sym none))

@@ -18,6 +18,7 @@ use Rattle.gd_format.specs.HeaderFault.{is_within, natural}
 use Rattle.gd_format.specs.Avail.{count_at, next_at, avail_size, is_avail, extents_at}
 use Rattle.gd_format.specs.Sound.{stack_at, stack_size, stack_block, is_stack_block, is_other_block, stack_fault_at, stack_fault, stack_places, stack_held, itself, held_by}
 use Rattle.gd_format.proofs.Firsts.{and-true, both_true, and-false, first_below_more, first_below_found, first_below_from, first_below-none, list_below_more, length-list_below, unless_true}
+use Rattle.gd_verify.specs.Apart.{StandsFor}
 use Rattle.gd_verify.specs.Fronts.{front_size, is_stack_front}
 use Rattle.gd_readable.specs.Checks.{Numbers}
 use Rattle.gd_verify.proofs.Numbers.{bool_cases, eqb-symm, eqb-laws}
@@ -165,6 +166,12 @@ module _ (file : List ℕ) (most top : ℕ) where
     pub distinct : IsDistinct nat_eq (below k)
     pub inside : (q : ℕ) → list_any (nat_eq q) (below k) ≡ true → q + 16 ≤ length file
     pub held : list ≡ old ++ flat_map (stack_held file) (below k)
+
+  -- after k blocks, for which a list stands
+  pub record IsListedTo (k a : ℕ) (known : Numbers) (old list : List Held) (enough : Bool) : Type 0 where
+    pub whole : List Held
+    pub stack : IsStackTo k a known old whole
+    pub stands : StandsFor whole list enough
 
   pub stack_starts : (known : Numbers) (old : List Held) → ((q : ℕ) → contains nat_eq known q ≡ false) → IsStackTo 0 top known old old
   unfolding IsDistinct

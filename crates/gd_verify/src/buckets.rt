@@ -6,7 +6,7 @@ ghost use Rattle.gd_format.specs.First.{first_some};
 ghost use Rattle.gd_format.specs.Headers.{IsHeader};
 ghost use Rattle.gd_format.specs.Sound.{free_held, is_free_right, records_held};
 ghost use Rattle.gd_verify.specs.Apart.{IsPlain};
-ghost use Rattle.gd_readable.specs.Asks.{kept_of, bytes_in, is_there, Tells, IsCause, is_of_file};
+ghost use Rattle.gd_readable.specs.Asks.{kept_of, bytes_in, is_there, Tells, IsCause, is_of_sound};
 ghost use Rattle.gd_verify.specs.Known.{HasBucket, free_fault_at};
 
 use crate::held::{push_free, push_records};
@@ -34,6 +34,7 @@ fn read_bucket<V: Vault>(
     requires plain_free { All IsPlain free.old.items }
     ensures same { kept_of (V.view_of vault.new) ≡ kept_of (V.view_of vault.old) }
     ensures later { (V.view_of vault.old).faults ≤ (V.view_of vault.new).faults }
+    ensures answered { IfOk result (λ _. (V.view_of vault.new).faults ≡ (V.view_of vault.old).faults) }
     ensures failed { IfErr result (λ e. IsCause e (V.view_of vault.old).faults (V.view_of vault.new).faults) }
     ensures plain_records { IfOk result (λ _. All IsPlain records.new.items) }
     ensures plain_free { IfOk result (λ _. All IsPlain free.new.items) }
@@ -72,10 +73,11 @@ pub fn buckets_refusal<V: Vault>(
     requires plain_free { All IsPlain free.old.items }
     ensures same { kept_of (V.view_of vault.new) ≡ kept_of (V.view_of vault.old) }
     ensures later { (V.view_of vault.old).faults ≤ (V.view_of vault.new).faults }
+    ensures answered { IfOk result (λ _. (V.view_of vault.new).faults ≡ (V.view_of vault.old).faults) }
     ensures failed { IfErr result (λ e. IsCause e (V.view_of vault.old).faults (V.view_of vault.new).faults) }
     ensures plain_records { IfOk result (λ _. All IsPlain records.new.items) }
     ensures plain_free { IfOk result (λ _. All IsPlain free.new.items) }
-    ensures kind { IfOk result (λ r. IfSome r (λ e. is_of_file e ≡ true)) }
+    ensures kind { IfOk result (λ r. IfSome r (λ e. is_of_sound e ≡ true)) }
     ensures refusal { IfOk result (λ r. Tells (bytes_in (kept_of (V.view_of vault.old)) f.0) (λ file. All (HasBucket file header.now) places.now → r ≡ first_some (map (free_fault_at file header.now) places.now))) }
     ensures records { IfOk result (λ r. Tells (bytes_in (kept_of (V.view_of vault.old)) f.0) (λ file. All (HasBucket file header.now) places.now → r ≡ None → records.new.items ≡ records.old.items ++ flat_map (records_held file header.now) places.now)) }
     ensures free { IfOk result (λ r. Tells (bytes_in (kept_of (V.view_of vault.old)) f.0) (λ file. All (HasBucket file header.now) places.now → r ≡ None → free.new.items ≡ free.old.items ++ flat_map (free_held file header.now) places.now)) }

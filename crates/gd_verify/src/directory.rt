@@ -7,7 +7,7 @@ ghost use Rattle.gd_format.specs.HeaderFault.{natural};
 ghost use Rattle.gd_format.specs.Headers.{IsHeader};
 ghost use Rattle.gd_format.specs.Bucket.{is_from_zero};
 ghost use Rattle.gd_format.specs.File.{entries_of, places_of};
-ghost use Rattle.gd_readable.specs.Asks.{kept_of, bytes_in, is_there, Tells, IsCause, is_of_file};
+ghost use Rattle.gd_readable.specs.Asks.{kept_of, bytes_in, is_there, Tells, IsCause, is_of_sound};
 ghost use Rattle.gd_verify.specs.Known.{IsReadBy, IsAddress, IsPlaced, IsPage, places_below};
 
 use gd_base::DbError;
@@ -83,6 +83,7 @@ fn next_page<V: Vault>(
     requires low { All IsAddress places.old.items }
     ensures same { kept_of (V.view_of vault.new) ≡ kept_of (V.view_of vault.old) }
     ensures later { (V.view_of vault.old).faults ≤ (V.view_of vault.new).faults }
+    ensures answered { IfOk result (λ _. (V.view_of vault.new).faults ≡ (V.view_of vault.old).faults) }
     ensures failed { IfErr result (λ e. IsCause e (V.view_of vault.old).faults (V.view_of vault.new).faults) }
     ensures low { IfOk result (λ _. All IsAddress places.new.items) }
     ensures below { IfOk result (λ r. IfNone r (Tells (bytes_in (kept_of (V.view_of vault.old)) f.0) (λ file. IsReadBy file header.now → ⊥))) }
@@ -110,9 +111,10 @@ fn read_places<V: Vault>(
     requires size { length page.old ≡ 4096 }
     ensures same { kept_of (V.view_of vault.new) ≡ kept_of (V.view_of vault.old) }
     ensures later { (V.view_of vault.old).faults ≤ (V.view_of vault.new).faults }
+    ensures answered { IfOk result (λ _. (V.view_of vault.new).faults ≡ (V.view_of vault.old).faults) }
     ensures failed { IfErr result (λ e. IsCause e (V.view_of vault.old).faults (V.view_of vault.new).faults) }
     ensures low { IfOk result (λ r. IfOk r (λ v. All IsAddress v.items)) }
-    ensures kind { IfOk result (λ r. IfErr r (λ e. is_of_file e ≡ true)) }
+    ensures kind { IfOk result (λ r. IfErr r (λ e. is_of_sound e ≡ true)) }
     ensures refused { IfOk result (λ r. IfErr r (λ e. Tells (bytes_in (kept_of (V.view_of vault.old)) f.0) (λ file. IsReadBy file header.now → ⊥))) }
     ensures places { IfOk result (λ r. IfOk r (λ v. Tells (bytes_in (kept_of (V.view_of vault.old)) f.0) (λ file. IsReadBy file header.now → v.items ≡ places_of file header.now))) }
 {
@@ -144,9 +146,10 @@ pub fn bucket_places<V: Vault>(
     requires header { IsHeader header.now }
     ensures same { kept_of (V.view_of vault.new) ≡ kept_of (V.view_of vault.old) }
     ensures later { (V.view_of vault.old).faults ≤ (V.view_of vault.new).faults }
+    ensures answered { IfOk result (λ _. (V.view_of vault.new).faults ≡ (V.view_of vault.old).faults) }
     ensures failed { IfErr result (λ e. IsCause e (V.view_of vault.old).faults (V.view_of vault.new).faults) }
     ensures low { IfOk result (λ r. IfOk r (λ v. All IsAddress v.items)) }
-    ensures kind { IfOk result (λ r. IfErr r (λ e. is_of_file e ≡ true)) }
+    ensures kind { IfOk result (λ r. IfErr r (λ e. is_of_sound e ≡ true)) }
     ensures refused { IfOk result (λ r. IfErr r (λ e. Tells (bytes_in (kept_of (V.view_of vault.old)) f.0) (λ file. IsReadBy file header.now → ⊥))) }
     ensures places { IfOk result (λ r. IfOk r (λ v. Tells (bytes_in (kept_of (V.view_of vault.old)) f.0) (λ file. IsReadBy file header.now → v.items ≡ places_of file header.now))) }
 {

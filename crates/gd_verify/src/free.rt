@@ -5,8 +5,8 @@ ghost use Rattle.std.specs.List.{All, flat_map};
 ghost use Rattle.gd_format.specs.Avail.{is_avail, next_at};
 ghost use Rattle.gd_format.specs.Headers.{IsHeader};
 ghost use Rattle.gd_format.specs.Sound.{most_of, place_of, stack_fault, stack_held, stack_places, table_held, table_of, top_of};
-ghost use Rattle.gd_verify.specs.Apart.{IsPlain};
-ghost use Rattle.gd_readable.specs.Asks.{kept_of, bytes_in, is_there, Tells, IsCause, is_of_file};
+ghost use Rattle.gd_verify.specs.Apart.{IsPlain, MeetsAlike};
+ghost use Rattle.gd_readable.specs.Asks.{kept_of, bytes_in, is_there, Tells, IsCause, is_of_sound};
 ghost use Rattle.gd_verify.specs.Known.{IsReadBy};
 ghost use Rattle.gd_verify.specs.Refused.{blocks_fault, blocks_held};
 
@@ -52,6 +52,7 @@ fn read_table<V: Vault>(
     requires plain { All IsPlain list.old.items }
     ensures same { kept_of (V.view_of vault.new) ≡ kept_of (V.view_of vault.old) }
     ensures later { (V.view_of vault.old).faults ≤ (V.view_of vault.new).faults }
+    ensures answered { IfOk result (λ _. (V.view_of vault.new).faults ≡ (V.view_of vault.old).faults) }
     ensures failed { IfErr result (λ e. IsCause e (V.view_of vault.old).faults (V.view_of vault.new).faults) }
     ensures plain { IfOk result (λ _. All IsPlain list.new.items) }
     ensures wrong { IfOk result (λ r. IfNone r (Tells (bytes_in (kept_of (V.view_of vault.old)) f.0) (λ file. IsReadBy file header.now → is_avail (table_of file header.now) header.now.avail_size ≡ false))) }
@@ -87,11 +88,12 @@ fn stack_of<V: Vault>(
     requires plain { All IsPlain list.old.items }
     ensures same { kept_of (V.view_of vault.new) ≡ kept_of (V.view_of vault.old) }
     ensures later { (V.view_of vault.old).faults ≤ (V.view_of vault.new).faults }
+    ensures answered { IfOk result (λ _. (V.view_of vault.new).faults ≡ (V.view_of vault.old).faults) }
     ensures failed { IfErr result (λ e. IsCause e (V.view_of vault.old).faults (V.view_of vault.new).faults) }
-    ensures kind { IfOk result (λ r. IfSome r (λ e. is_of_file e ≡ true)) }
+    ensures kind { IfOk result (λ r. IfSome r (λ e. is_of_sound e ≡ true)) }
     ensures plain { IfOk result (λ _. All IsPlain list.new.items) }
     ensures refusal { IfOk result (λ r. Tells (bytes_in (kept_of (V.view_of vault.old)) f.0) (λ file. length file ≡ len → IsReadBy file header.now → r ≡ stack_fault file (most_of header.now) top)) }
-    ensures held { IfOk result (λ r. Tells (bytes_in (kept_of (V.view_of vault.old)) f.0) (λ file. length file ≡ len → IsReadBy file header.now → r ≡ None → list.new.items ≡ list.old.items ++ flat_map (stack_held file) (stack_places file top))) }
+    ensures held { IfOk result (λ r. Tells (bytes_in (kept_of (V.view_of vault.old)) f.0) (λ file. length file ≡ len → IsReadBy file header.now → r ≡ None → MeetsAlike (list.old.items ++ flat_map (stack_held file) (stack_places file top)) list.new.items)) }
 {
     let most = (header.block - 56) / 16;
     let Ok(mut buf) = vec![in alloc; 0u8; 16 + 16 * most as usize] else {
@@ -100,7 +102,8 @@ fn stack_of<V: Vault>(
     stack_refusal(alloc, vault, f, most, top, len, &mut buf, list)
 }
 
-/// The refusal of the table of free space and of the stack, in a file of `len` bytes. Puts their extents last.
+/// The refusal of the table of free space and of the stack, in a file of `len` bytes. Puts their extents last, or of
+/// blocks that meet at least so many that two extents meet.
 #[tactic(auto, using(gd_readable::proofs::Asks::cause_later))]
 pub fn blocks_refusal<V: Vault>(
     alloc: Global,
@@ -115,11 +118,12 @@ pub fn blocks_refusal<V: Vault>(
     requires plain { All IsPlain list.old.items }
     ensures same { kept_of (V.view_of vault.new) ≡ kept_of (V.view_of vault.old) }
     ensures later { (V.view_of vault.old).faults ≤ (V.view_of vault.new).faults }
+    ensures answered { IfOk result (λ _. (V.view_of vault.new).faults ≡ (V.view_of vault.old).faults) }
     ensures failed { IfErr result (λ e. IsCause e (V.view_of vault.old).faults (V.view_of vault.new).faults) }
-    ensures kind { IfOk result (λ r. IfSome r (λ e. is_of_file e ≡ true)) }
+    ensures kind { IfOk result (λ r. IfSome r (λ e. is_of_sound e ≡ true)) }
     ensures plain { IfOk result (λ _. All IsPlain list.new.items) }
     ensures refusal { IfOk result (λ r. Tells (bytes_in (kept_of (V.view_of vault.old)) f.0) (λ file. length file ≡ len → IsReadBy file header.now → r ≡ blocks_fault file header.now)) }
-    ensures held { IfOk result (λ r. Tells (bytes_in (kept_of (V.view_of vault.old)) f.0) (λ file. length file ≡ len → IsReadBy file header.now → r ≡ None → list.new.items ≡ list.old.items ++ blocks_held file header.now)) }
+    ensures held { IfOk result (λ r. Tells (bytes_in (kept_of (V.view_of vault.old)) f.0) (λ file. length file ≡ len → IsReadBy file header.now → r ≡ None → MeetsAlike (list.old.items ++ blocks_held file header.now) list.new.items)) }
 {
     let Ok(mut block) = vec![in alloc; 0u8; header.block as usize] else {
         return Err(Stopped::NoMemory);

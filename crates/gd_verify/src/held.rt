@@ -112,6 +112,7 @@ pub fn push_free(block: &[u8], at: u64, list: &mut Vec<Held>) -> Result<bool, Ou
     requires size { 112 ≤ length block.now }
     requires plain { All IsPlain list.old.items }
     ensures right { IfOk result (λ b. is_within (counts_at block.now).free 0 6 ≡ true → b ≡ all_below (natural (counts_at block.now).free) (is_free_right_at block.now)) }
+    ensures outside { IfOk result (λ b. is_within (counts_at block.now).free 0 6 ≡ false → b ≡ false) }
     ensures held { IfOk result (λ b. b ≡ true → list.new.items ≡ list.old.items ++ map (held_by at) (free_at block.now (natural (counts_at block.now).free))) }
     ensures plain { IfOk result (λ _. All IsPlain list.new.items) }
 {

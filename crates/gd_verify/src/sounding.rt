@@ -10,7 +10,7 @@ ghost use Rattle.gd_format.specs.Sound.{itself, sound_fault, space_fault};
 ghost use Rattle.gd_verify.specs.Apart.{IsPlain};
 ghost use Rattle.gd_vault.specs.Content.{File};
 ghost use Rattle.gd_vault.specs.Views.{HasFile, IsAt, OnlyAsks};
-ghost use Rattle.gd_readable.specs.Asks.{kept_of, bytes_in, is_there, Tells, IsCause, is_of_file};
+ghost use Rattle.gd_readable.specs.Asks.{kept_of, bytes_in, is_there, Tells, IsCause, is_of_sound, IsAnswer, Counts};
 ghost use Rattle.gd_verify.specs.Known.{IsAddress, IsReadBy};
 ghost use Rattle.gd_verify.specs.Refused.{RefusesSound, extents_fault, fixed_held};
 
@@ -98,8 +98,9 @@ fn extents_refusal<V: Vault>(
     requires plain { All IsPlain space.now }
     ensures same { kept_of (V.view_of vault.new) ≡ kept_of (V.view_of vault.old) }
     ensures later { (V.view_of vault.old).faults ≤ (V.view_of vault.new).faults }
+    ensures answered { IfOk result (λ _. (V.view_of vault.new).faults ≡ (V.view_of vault.old).faults) }
     ensures failed { IfErr result (λ e. IsCause e (V.view_of vault.old).faults (V.view_of vault.new).faults) }
-    ensures kind { IfOk result (λ r. IfSome r (λ e. is_of_file e ≡ true)) }
+    ensures kind { IfOk result (λ r. IfSome r (λ e. is_of_sound e ≡ true)) }
     ensures refusal { IfOk result (λ r. Tells (bytes_in (kept_of (V.view_of vault.old)) f.0) (λ file. IsReadBy file header.now → r ≡ extents_fault file header.now space.now)) }
 {
     let places = match bucket_places(alloc, vault, f, header)? {
@@ -135,8 +136,9 @@ fn space_refusal<V: Vault>(
     requires header { IsHeader header.now }
     ensures same { kept_of (V.view_of vault.new) ≡ kept_of (V.view_of vault.old) }
     ensures later { (V.view_of vault.old).faults ≤ (V.view_of vault.new).faults }
+    ensures answered { IfOk result (λ _. (V.view_of vault.new).faults ≡ (V.view_of vault.old).faults) }
     ensures failed { IfErr result (λ e. IsCause e (V.view_of vault.old).faults (V.view_of vault.new).faults) }
-    ensures kind { IfOk result (λ r. IfSome r (λ e. is_of_file e ≡ true)) }
+    ensures kind { IfOk result (λ r. IfSome r (λ e. is_of_sound e ≡ true)) }
     ensures refusal { IfOk result (λ r. Tells (bytes_in (kept_of (V.view_of vault.old)) f.0) (λ file. IsReadBy file header.now → r ≡ space_fault file header.now)) }
 {
     let len = file_len(vault, f)?;
@@ -153,7 +155,7 @@ fn space_refusal<V: Vault>(
 }
 
 /// The header of a sound file, or the first refusal of another one. The file is read block by block; what is held of it
-/// are its extents.
+/// are its extents, or of a stack whose blocks meet no more than about a quarter of the file's length of them.
 ///
 /// Over a vault that doesn't tell what it holds, a read that gives fewer bytes than a check needs fails that check.
 pub fn sound<V: Vault>(alloc: Global, vault: &mut V, f: FileId) -> Result<Header, DbError>
@@ -164,6 +166,9 @@ pub fn sound<V: Vault>(alloc: Global, vault: &mut V, f: FileId) -> Result<Header
     ensures native { IfOk result (λ h. is_native h.magic ≡ true) }
     ensures sound { IfOk result (λ h. IsAt (V.view_of vault.old) (λ c. (x : File) → c.files f.0 ≡ Some x → (sound_fault x.bytes ≡ None) × (h ≡ header_of (front_of x.bytes)))) }
     ensures refused { IfErr result (λ e. RefusesSound e f.0 (V.view_of vault.old) (V.view_of vault.new)) }
+    ensures kind { IfErr result (λ e. IsAnswer is_of_sound e) }
+    ensures answered { IfOk result (λ _. (V.view_of vault.new).faults ≡ (V.view_of vault.old).faults) }
+    ensures counted { IfErr result (λ e. Counts e (V.view_of vault.old).faults (V.view_of vault.new).faults) }
 {
     let header = match readable(alloc, vault, f) {
         Ok(header) => header,

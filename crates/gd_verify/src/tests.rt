@@ -1,6 +1,10 @@
+ghost use Rattle.gd_format.specs.Headers.{IsHeader};
+
+use crate::free::blocks_refusal;
 use crate::small_vault::SmallVault;
-use crate::sound;
+use crate::{readable, sound};
 use gd_base::DbError;
+use gd_format::Header;
 use gd_vault::FileId;
 use std::alloc::Global;
 use std::process::Abort;
@@ -326,5 +330,60 @@ fn each_read_that_fails_is_a_fault_of_the_vault(rt: HostRuntime) -> Result<(), F
         }
     }
     assert!(&rt; sound_after.is_some());
+    Ok(())
+}
+
+// A stack of 160 blocks, of which each begins 16 bytes behind the one above it: its head is an extent of that one.
+fn put_meeting_blocks(rt: &impl Abort, file: &mut [u8]) {
+    for i in 0..160u16 {
+        let at = usize::from(i).wrapping_mul(16).wrapping_add(1536);
+        let next = i.wrapping_mul(16).wrapping_add(1552) % 4096;
+        put(rt, file, at, &[1]);
+        put(
+            rt,
+            file,
+            at.wrapping_add(4),
+            &159u16.saturating_sub(i).min(28).to_le_bytes(),
+        );
+        put(rt, file, at.wrapping_add(8), &next.to_le_bytes());
+    }
+}
+
+// How many extents of the blocks of the stack are listed, where none of them is refused.
+#[tactic(auto, unfolding(gd_readable::specs::Asks::is_there, gd_readable::specs::Asks::kept_of))]
+fn listed(alloc: Global, vault: &mut SmallVault, header: &Header) -> Option<usize>
+    requires { IsHeader header.now }
+{
+    let mut list = Vec::new(alloc);
+    match blocks_refusal(alloc, vault, FileId(0), header, 4096, &mut list) {
+        Ok(None) => Some(list.len()),
+        _ => None,
+    }
+}
+
+#[test]
+fn of_blocks_that_meet_few_extents_are_listed(rt: HostRuntime) -> Result<(), Fail> {
+    let mut file = [0; 4096];
+    put(&rt, &mut file, 0, &new_file(&rt));
+    put(&rt, &mut file, 33, &[0x10]);
+    put(&rt, &mut file, 48, &[0, 6]);
+    put(&rt, &mut file, 1024, &[0]);
+    put_meeting_blocks(&rt, &mut file);
+    // The count of the last block, which is looked at after enough is listed.
+    for (count, refusal) in [(1, avail(4080)), (0, avail(1536))] {
+        put(&rt, &mut file, 4084, &[count]);
+        if let Some(mut vault) = vault_of(&rt, rt.alloc(), &file, 1 << 20) {
+            let answer = sound(rt.alloc(), &mut vault, FileId(0)).err();
+            assert_eq!(&rt; answer, refusal);
+        }
+    }
+    let Some(mut vault) = vault_of(&rt, rt.alloc(), &file, 1 << 20) else {
+        return Ok(());
+    };
+    let Ok(header) = readable(rt.alloc(), &mut vault, FileId(0)) else {
+        return Ok(());
+    };
+    // All the blocks together have 4,234 extents with themselves.
+    assert!(&rt; listed(rt.alloc(), &mut vault, &header).is_some_and(|n| n <= 4096 / 4 + 29));
     Ok(())
 }

@@ -30,7 +30,7 @@ pieces-preserved g c =
     record {
       far = omega arith;
       same = search rules;
-      later = omega (arith, old.later, c.in_ok-fill.ensures.later);
+      later = omega (arith, old.later, c.in_ok-fill.ensures.answered);
       equal =
           λ file told inside.
           let all : c.args.at + length c.args.key.now ≤ length file = inside (omega arith) in

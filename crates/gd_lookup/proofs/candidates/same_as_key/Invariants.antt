@@ -7,7 +7,7 @@ abbrev pub invariant-pieces : goal.invariant-pieces
 invariant-pieces g l = record {
   far : l.done ≤ length l.key;
   same : kept_of (g.V.Vault.view_of l.vault) ≡ kept_of (g.V.Vault.view_of l.fn.vault);
-  later : (g.V.Vault.view_of l.fn.vault).faults ≤ (g.V.Vault.view_of l.vault).faults;
+  later : (g.V.Vault.view_of l.vault).faults ≡ (g.V.Vault.view_of l.fn.vault).faults;
   equal : Tells (bytes_in (kept_of (g.V.Vault.view_of l.fn.vault)) l.f.0) (λ file. IsIn file l.at (length l.key) → bytes_at file l.at l.done ≡ take l.done l.key);
 }
 

@@ -13,7 +13,7 @@ pieces-preserved g c =
       far = omega arith;
       fits = search rules;
       same = search rules;
-      later = omega (arith, old.later, c.in_ok-fill.ensures.later);
+      later = omega (arith, old.later, c.in_ok-fill.ensures.answered);
       hash =
           λ file told inside.
           let some : 0 < c.args.size = omega arith in

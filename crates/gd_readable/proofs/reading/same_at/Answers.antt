@@ -31,7 +31,7 @@ pieces-preserved g c =
     record {
       far = omega arith;
       same = search rules;
-      later = omega (arith, old.later, c.in_ok-fill.ensures.later, c.in_ok-fill-2.ensures.later);
+      later = omega (arith, old.later, c.in_ok-fill.ensures.answered, c.in_ok-fill-2.ensures.answered);
       equal =
           λ file told a b.
           let told_one : bytes_in (kept_of (g.V.Vault.view_of c.pieces.vault)) c.args.f.0 ≡ Some file = ap (λ (k : Kept). bytes_in k c.args.f.0) old.same ∙ told in

@@ -17,7 +17,7 @@ loop-s-preserved g c =
     let old = c.loop-s.invariant in
     record {
       same = search rules;
-      later = omega (arith, old.later, c.in_ok-refusal.ensures.later);
+      later = omega (arith, old.later, c.in_ok-refusal.ensures.answered);
       none =
           λ file told len.
           let told_here : bytes_in (kept_of (g.V.Vault.view_of c.loop-s.vault)) c.args.f.0 ≡ Some file = ap (λ (k : Kept). bytes_in k c.args.f.0) old.same ∙ told in

@@ -6,7 +6,7 @@ use Rattle.gd_readable.specs.Standing.{slots_ahead}
 use Rattle.gd_readable.proofs.Ahead.{ahead_slot, ahead_bucket}
 use Rattle.gd_readable.proofs.Asks.{told_then}
 use Rattle.gd_readable.proofs.Left.{walk_behind}
-use Rattle.gd_readable.proofs.Nexts.{refilled, left_behind, left_at_end}
+use Rattle.gd_readable.proofs.Nexts.{refilled, left_behind, left_at_end, left_ended}
 use Rattle.gd_readable.proofs.walking.next_from.Goals as goal
 
 pub returns-in-Err-next_block-clause-again : goal.returns-in-Err-next_block-clause-again
@@ -47,7 +47,7 @@ buckets-preserved g c =
     let some : Tells (bytes_in (kept_of (g.V.Vault.view_of c.next_in_block.new.vault)) c.args.f.0) (λ file. IsWalk file h c.buckets.place.entry c.deref_mut.result.now h.elems → (buckets_left file h c.buckets.place.entry ≡ records_left file h next.0 c.next_block.new.block 0) × IsWalk file h next.0 c.next_block.new.block 0) = rw c.in-Some-entered.is at c.in-Ok-next_block.ensures.some in
     record {
       same = search rules;
-      later = omega (arith, old.later, c.in-Ok.ensures.later, c.in-Ok-next_block.ensures.later);
+      later = omega (arith, old.later, c.in-Ok.ensures.answered, c.in-Ok-next_block.ensures.answered);
       ahead =
           let before = old.ahead in
           let less : slots_ahead h next.0 0 ≤ slots_ahead h c.buckets.place.entry c.buckets.place.slot = ahead_bucket h c.buckets.place.entry next.0 c.buckets.place.slot range.0 high in
@@ -76,3 +76,10 @@ buckets-preserved g c =
           let behind = walk_behind file h c.buckets.place.entry c.buckets.place.block.items c.buckets.place.slot before c.deref_mut.result.now in
           rw block (sym (some file told_one behind).0 ∙ sym here ∙ old.left file told w);
     }
+
+pub returns-then-is_at_end-clause-none : goal.returns-then-is_at_end-clause-none
+returns-then-is_at_end-clause-none g c =
+    λ file told w.
+    let place = c.args.place.now in
+    let end = c.is_at_end.ensures.end c.if-is_at_end.true in
+    left_ended file c.args.header.now place.entry place.block.items place.slot end.0 end.1

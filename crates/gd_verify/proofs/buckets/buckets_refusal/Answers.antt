@@ -21,7 +21,7 @@ returns-then-not-branch-clause-refusal g c =
 pub loop-at-preserved : goal.loop-at-preserved
 loop-at-preserved g c = record {
   same = c.in_ok-read_bucket.ensures.same ∙ c.loop-at.invariant.same;
-  later = omega (arith, c.loop-at.invariant.later, c.in_ok-read_bucket.ensures.later);
+  later = omega (arith, c.loop-at.invariant.later, c.in_ok-read_bucket.ensures.answered);
   size = c.read_bucket.auto.block ∙ c.loop-at.invariant.size;
   plain_records = c.in_ok-read_bucket.ensures.plain_records;
   plain_free = c.in_ok-read_bucket.ensures.plain_free;

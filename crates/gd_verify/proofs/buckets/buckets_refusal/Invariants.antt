@@ -10,7 +10,7 @@ use Rattle.gd_verify.proofs.buckets.buckets_refusal.Given as goal
 abbrev pub invariant-loop-at : goal.invariant-loop-at
 invariant-loop-at g l = record {
   same : kept_of (g.V.Vault.view_of l.vault) ≡ kept_of (g.V.Vault.view_of l.fn.vault);
-  later : (g.V.Vault.view_of l.fn.vault).faults ≤ (g.V.Vault.view_of l.vault).faults;
+  later : (g.V.Vault.view_of l.vault).faults ≡ (g.V.Vault.view_of l.fn.vault).faults;
   size : length l.block ≡ length l.fn.block;
   plain_records : All IsPlain l.records.items;
   plain_free : All IsPlain l.free.items;

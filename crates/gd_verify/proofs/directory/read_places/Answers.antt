@@ -27,7 +27,7 @@ pages-preserved g c =
     record {
       far = omega (arith, whole.0, min);
       same = c.in_ok-next.ensures.same ∙ old.same;
-      later = omega (arith, old.later, c.in_ok-next.ensures.later);
+      later = omega (arith, old.later, c.in_ok-next.ensures.answered);
       size = c.next_page.auto.page ∙ old.size;
       low = c.in_ok-next.ensures.low;
       placed =

@@ -8,7 +8,7 @@ abbrev pub invariant-pages : goal.invariant-pages
 invariant-pages g l = record {
   far : l.i ≤ l.n;
   same : kept_of (g.V.Vault.view_of l.vault) ≡ kept_of (g.V.Vault.view_of l.fn.vault);
-  later : (g.V.Vault.view_of l.fn.vault).faults ≤ (g.V.Vault.view_of l.vault).faults;
+  later : (g.V.Vault.view_of l.vault).faults ≡ (g.V.Vault.view_of l.fn.vault).faults;
   size : length l.page ≡ 4096;
   low : All IsAddress l.places.items;
   placed : Tells (bytes_in (kept_of (g.V.Vault.view_of l.fn.vault)) l.f.0) (λ file. IsReadBy file l.header → IsPlaced file l.header l.i l.before l.places.items);

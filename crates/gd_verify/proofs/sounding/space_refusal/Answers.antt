@@ -1,6 +1,7 @@
-use Rattle.std.proofs.Common.{◌++◌, List, sym, ap, ◌∙◌, arith}
+use Rattle.std.proofs.Common.{◌++◌, List, sym, ap, subst, ◌∙◌, arith}
 use Rattle.gd_format.specs.declared.Held.{Held}
 use Rattle.gd_readable.proofs.Asks.{told_then}
+use Rattle.gd_verify.specs.Apart.{MeetsAlike}
 use Rattle.gd_verify.specs.Refused.{blocks_held}
 use Rattle.gd_verify.proofs.Orders.{need_recovery, order_blocks, order_rest}
 use Rattle.gd_verify.proofs.sounding.space_refusal.Goals as goal
@@ -26,5 +27,6 @@ returns-clause-refusal g c =
     let told_two = told_then _ _ c.args.f.0 file c.in_ok-refusal.ensures.same told_one in
     order_rest file c.args.header.now c.deref.result.now c.in_ok-refusal-2.refusal (omega (arith, len, c.if-header-len.false))
     (sym c.in_default.is ∙ c.in_ok-refusal.ensures.refusal file told_one len read)
-    (c.deref.ensures.value ∙ c.in_ok-refusal.ensures.held file told_one len read c.in_default.is ∙ ap (λ (xs : List Held). xs ++ blocks_held file c.args.header.now) c.new-space.ensures.items)
+    (subst (λ (xs : List Held). MeetsAlike xs c.deref.result.now) (ap (λ (xs : List Held). xs ++ blocks_held file c.args.header.now) c.new-space.ensures.items)
+    (subst (λ (xs : List Held). MeetsAlike (c.new-space.result.items ++ blocks_held file c.args.header.now) xs) (sym c.deref.ensures.value) (c.in_ok-refusal.ensures.held file told_one len read c.in_default.is)))
     (c.in_ok-refusal-2.ensures.refusal file told_two read)
