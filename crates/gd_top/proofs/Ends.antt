@@ -1,6 +1,8 @@
 -- How a run ends, from how its parts do.
 use Rattle.std.proofs.Common.{◌≡◌, ◌≢◌, ◌∙◌, ◌⊎◌, ⊎_elim, ap, sym, subst, refl, inl, inr, ℕ, ◌+◌, ◌-◌, ◌^◌, ◌≤◌, List, ◌++◌, take, length, min, Option, Some, None, arith}
-use Rattle.std.specs.Prelude.{option_map, option_and_then}
+use Rattle.std.specs.Prelude.{option_map, option_and_then, Result, IfErr}
+use Rattle.std.specs.Result.{IsErrAnd}
+use Rattle.std.proofs.lemmas.Result.{err_from_is_err_and}
 use Rattle.gd_base.specs.Causes.{Rose}
 use Rattle.gd_base.specs.Streams.{WritesFront, and_then}
 use Rattle.gd_base.proofs.Waits.{Waits, waits-front}
@@ -10,12 +12,12 @@ use Rattle.gd_base.specs.declared.errors.DbError.TheVariants.{VaultFault, OutOfM
 use Rattle.gd_vault.specs.Content.{File, Content}
 use Rattle.gd_vault.specs.Views.{Told, View, IsAt, content_of}
 use Rattle.gd_format.specs.File.{file_fault}
-use Rattle.gd_readable.specs.Asks.{RefusesFile, RefusesWalk}
+use Rattle.gd_readable.specs.Asks.{Counts, IsAnswer, RefusesFile, RefusesWalk, is_of_bucket, is_of_readable}
 use Rattle.gd_top.specs.Words.{Text}
-use Rattle.gd_top.specs.Dump.{AtFile, Breaks, EndsAt, EndsFor, bytes_of, dump_of, fault_of, text_of}
+use Rattle.gd_top.specs.Dump.{AtFile, Breaks, Counted, EndsAt, EndsFor, IsQuiet, Says, bytes_of, dump_of, fault_of, line_of, status_of, status_untold, text_of}
 use Rattle.gd_top.specs.declared.ending.Ending.{Ending}
 use Rattle.gd_top.specs.declared.ending.Ending.TheVariants.{Dumped, Misused, Refused, Broken, OutputFailed, Starved}
-use Rattle.gd_top.proofs.Refusals.{told_refusal}
+use Rattle.gd_top.proofs.Refusals.{also_refusal, fault_or, fault_or_map}
 
 -- ---- nothing was written
 
@@ -39,7 +41,7 @@ pub breaks_on : (e : Ending) (t u : Told) (p q r s : Type 0) → t ≡ u → (p 
 breaks_on Dumped t u p q r s same f g h = absurd h
 breaks_on Misused t u p q r s same f g h = absurd h
 breaks_on (Refused e) t u p q r s same f g h = absurd h
-breaks_on (Broken e) t u p q r s same f g h = ⊎_elim (λ (x : (e ≡ VaultFault) × p). inl (x.0, f x.1)) (λ (x : content_of t ≡ None). inr (sym (ap content_of same) ∙ x)) h
+breaks_on (Broken e) t u p q r s same f g h = fault_or_map e _ _ _ _ f (λ x. (x.0, sym (ap content_of same) ∙ x.1)) h
 breaks_on OutputFailed t u p q r s same f g h = g h
 breaks_on Starved t u p q r s same f g h = tt
 
@@ -47,13 +49,30 @@ breaks_on Starved t u p q r s same f g h = tt
 abbrev pub Stops : DbError → Ending → Type 0
 Stops error e = ((e ≡ Starved) × (error ≡ OutOfMemory)) ⊎ ((e ≡ Broken error) × (error ≢ OutOfMemory))
 
-pub walk_breaks : (error : DbError) (e : Ending) (u v : View) (q : Type 0) → Stops error e → RefusesWalk error u v → Breaks e u.told (Rose u.faults v.faults) q
-walk_breaks error e u v q stops h =
+pub walk_breaks : (error : DbError) (e : Ending) (u v : View) (q : Type 0) → Stops error e → RefusesWalk error u v → IsAnswer is_of_bucket error → Breaks e u.told (Rose u.faults v.faults) q
+walk_breaks error e u v q stops h kind =
     ⊎_elim
     (λ (x : (e ≡ Starved) × (error ≡ OutOfMemory)). subst (λ (k : Ending). Breaks k u.told (Rose u.faults v.faults) q) (sym x.0) tt)
     (λ (x : (e ≡ Broken error) × (error ≢ OutOfMemory)). subst (λ (k : Ending). Breaks k u.told (Rose u.faults v.faults) q) (sym x.0)
-    (⊎_elim (λ (none : content_of u.told ≡ None). inr none) (λ (fault : (error ≡ VaultFault) × Rose u.faults v.faults). inl fault) (told_refusal error _ _ h x.1)))
+    (fault_or error _ _ _ h kind x.1))
     stops
+
+pub walk_counts : (error : DbError) (e : Ending) (a b o p : ℕ) → Stops error e → Counts error a b → p ≡ o → Counted e a b o p
+walk_counts error e a b o p stops h same =
+    ⊎_elim
+    (λ (x : (e ≡ Starved) × (error ≡ OutOfMemory)). subst (λ (k : Ending). Counted k a b o p) (sym x.0) (let stays : Counts OutOfMemory a b = rw x.1 at h in (stays, same)))
+    (λ (x : (e ≡ Broken error) × (error ≢ OutOfMemory)). subst (λ (k : Ending). Counted k a b o p) (sym x.0) (h, same))
+    stops
+
+pub output_counts : (e : Ending) (a b o p : ℕ) → e ≡ OutputFailed → b ≡ a → Counted e a b o p
+output_counts e a b o p is same = subst (λ (k : Ending). Counted k a b o p) (sym is) same
+
+pub err_map : {T : Type 0} (Q P : Ending → Type 0) (r : Result T Ending) → IsErrAnd r Q → ((e : Ending) → Q e → P e) → IfErr r P
+err_map Q P r err f = let e = err_from_is_err_and {Q = Q} r err in rw e.1 (f e.0 e.2)
+
+-- counts that stood before a part of a run
+pub counted_on : (e : Ending) (a b c o p q : ℕ) → Counted e b c p q → b ≡ a → p ≡ o → Counted e a c o q
+counted_on e a b c o p q h one two = rw (← one, ← two) h
 
 -- ---- a file that is there
 
@@ -61,16 +80,20 @@ walk_breaks error e u v q stops h =
 abbrev pub IsRefusal : DbError → Ending → Type 0
 IsRefusal error e = ((e ≡ Starved) × (error ≡ OutOfMemory)) ⊎ ((e ≡ Refused error) × (error ≢ OutOfMemory))
 
-pub ends_refused : (error : DbError) (e : Ending) (name : Text) (u v : View) (f : ℕ) (q : Type 0) (out : Option Text) → IsRefusal error e → RefusesFile error f u v → EndsAt e name u f (Rose u.faults v.faults) q out out
-ends_refused error e name u v f q out is h =
+pub ends_refused : (error : DbError) (e : Ending) (name : Text) (u v : View) (f : ℕ) (q : Type 0) (out : Option Text) → IsRefusal error e → RefusesFile error f u v → IsAnswer is_of_readable error → EndsAt e name u f (Rose u.faults v.faults) q out out
+ends_refused error e name u v f q out is h kind =
     let P : Ending → Type 0 = λ k. EndsAt k name u f (Rose u.faults v.faults) q out out in
     ⊎_elim
     (λ (x : (e ≡ Starved) × (error ≡ OutOfMemory)). subst P (sym x.0) (λ c told x is. no_front out (text_of name (Some x.bytes))))
     (λ (x : (e ≡ Refused error) × (error ≢ OutOfMemory)). subst P (sym x.0)
-    (⊎_elim
-    (λ (first : (c : Content) (x : File) → content_of u.told ≡ Some c → c.files f ≡ Some x → file_fault x.bytes ≡ Some error). (inl (λ c told x is. first c x told is), refl))
-    (λ (fault : (error ≡ VaultFault) × Rose u.faults v.faults). (inr fault, refl))
-    (told_refusal error _ _ h x.1)))
+    (fault_or_map error _ _ _ _ (λ r. r) (λ both. (both.0, λ c told x is. both.1 c x told is)) (fault_or error _ _ _ h kind x.1), refl))
+    is
+
+pub refused_counts : (error : DbError) (e : Ending) (a b o : ℕ) → IsRefusal error e → Counts error a b → Counted e a b o o
+refused_counts error e a b o is h =
+    ⊎_elim
+    (λ (x : (e ≡ Starved) × (error ≡ OutOfMemory)). subst (λ (k : Ending). Counted k a b o o) (sym x.0) (let stays : Counts OutOfMemory a b = rw x.1 at h in (stays, refl)))
+    (λ (x : (e ≡ Refused error) × (error ≢ OutOfMemory)). subst (λ (k : Ending). Counted k a b o o) (sym x.0) (h, refl))
     is
 
 text_is : (name file : List ℕ) (b : Option (List ℕ)) → b ≡ Some file → file_fault file ≡ None → dump_of name file ≡ text_of name b
@@ -90,7 +113,7 @@ pub ends_on : (e : Ending) (name : Text) (u v : View) (f : ℕ) (p q r s : Type 
 ends_on Dumped name u v f p q r s out0 out1 same a b h = λ c told x is. h c (ap content_of same ∙ told) x is
 ends_on Misused name u v f p q r s out0 out1 same a b h = h
 ends_on (Refused e) name u v f p q r s out0 out1 same a b h = (
-  ⊎_elim (λ (x : AtFile u f (λ file. file_fault file ≡ Some e)). inl (λ c told y is. x c (ap content_of same ∙ told) y is)) (λ (x : (e ≡ VaultFault) × p). inr (x.0, a x.1)) h.0,
+  fault_or_map e _ _ _ _ a (λ x. (x.0, λ c told y is. x.1 c (ap content_of same ∙ told) y is)) h.0,
   h.1,
 )
 ends_on (Broken e) name u v f p q r s out0 out1 same a b h = (λ c told x is. h.0 c (ap content_of same ∙ told) x is, breaks_on (Broken e) u.told v.told p q r s same a b h.1)
@@ -123,9 +146,40 @@ module _ (name : Text) (v : View) (f : ℕ) (named : IsAt v (λ c. c.names name 
   }
   ends_named Misused p q out0 out1 h = absurd h
   ends_named (Refused e) p q out0 out1 h = record {
-    comes = ⊎_elim (λ (x : AtFile v f (λ file. file_fault file ≡ Some e)). inl (at_name (λ b. fault_of b ≡ Some e) x)) (λ (x : (e ≡ VaultFault) × p). inr x) h.0;
+    comes = fault_or_map e _ _ _ _ (λ x. x) (λ x. (also_refusal e x.0, at_name (λ b. fault_of b ≡ Some e) x.1)) h.0;
     prints = h.1;
   }
   ends_named (Broken e) p q out0 out1 h = record { comes = (readable_name (λ file. WritesFront out0 out1 (dump_of name file)) h.0, h.1); prints = front_name out0 out1 h.0 }
   ends_named OutputFailed p q out0 out1 h = record { comes = (readable_name (λ file. WritesFront out0 out1 (dump_of name file)) h.0, h.1); prints = front_name out0 out1 h.0 }
   ends_named Starved p q out0 out1 h = record { comes = tt; prints = at_name (λ b. WritesFront out0 out1 (text_of name b)) h }
+
+-- ---- where no count rose
+
+loud : (status : ℕ) → status ≡ 1 → IsQuiet status → ⊥
+loud status is quiet = ⊎_elim (λ (x : status ≡ 0). omega (arith, is, x)) (λ (x : status ≡ 4). omega (arith, is, x)) quiet
+
+louder : (status : ℕ) → status ≡ 3 → IsQuiet status → ⊥
+louder status is quiet = ⊎_elim (λ (x : status ≡ 0). omega (arith, is, x)) (λ (x : status ≡ 4). omega (arith, is, x)) quiet
+
+untold_loud : (e : Ending) (status : ℕ) → status ≡ status_untold e → IsQuiet status → ⊥
+untold_loud Dumped status is quiet = loud status is quiet
+untold_loud Misused status is quiet = louder status is quiet
+untold_loud (Refused e) status is quiet = loud status is quiet
+untold_loud (Broken e) status is quiet = loud status is quiet
+untold_loud OutputFailed status is quiet = loud status is quiet
+untold_loud Starved status is quiet = loud status is quiet
+
+quiet_ending : (e : Ending) (status v0 v1 o0 o1 : ℕ) → status ≡ status_of e → IsQuiet status → Counted e v0 v1 o0 o1 → (v1 ≡ v0) × (o1 ≡ o0)
+quiet_ending Dumped status v0 v1 o0 o1 is quiet h = h
+quiet_ending Misused status v0 v1 o0 o1 is quiet h = h
+quiet_ending (Refused e) status v0 v1 o0 o1 is quiet h = absurd (loud status is quiet)
+quiet_ending (Broken e) status v0 v1 o0 o1 is quiet h = absurd (loud status is quiet)
+quiet_ending OutputFailed status v0 v1 o0 o1 is quiet h = absurd (loud status is quiet)
+quiet_ending Starved status v0 v1 o0 o1 is quiet h = h
+
+pub quiet : (e : Ending) (status v0 v1 o0 o1 n0 n1 : ℕ) (err0 err1 : Option Text) → Counted e v0 v1 o0 o1 → Says e status n0 n1 err0 err1 → IsQuiet status → (v1 ≡ v0) × (o1 ≡ o0) × (n1 ≡ n0)
+quiet e status v0 v1 o0 o1 n0 n1 err0 err1 counted says is =
+    ⊎_elim
+    (λ (x : (status ≡ status_of e) × (n1 ≡ n0) × (err1 ≡ and_then err0 (line_of e))). let both = quiet_ending e status v0 v1 o0 o1 x.0 is counted in (both.0, both.1, x.1))
+    (λ (x : (status ≡ status_untold e) × Rose n0 n1 × WritesFront err0 err1 (line_of e)). absurd (untold_loud e status x.0 is))
+    says

@@ -1,37 +1,102 @@
 -- What the refusal of a file, or of a walk, says where it is no want of memory.
-use Rattle.std.proofs.Common.{◌≡◌, ◌≢◌, ◌⊎◌, ℕ, refl, inl, inr}
+use Rattle.std.proofs.Common.{◌≡◌, ◌≢◌, true, refl}
 use Rattle.gd_base.specs.declared.errors.DbError.{DbError}
 use Rattle.gd_base.specs.declared.errors.DbError.TheVariants.{Absent, BlockSize, ShortFile, BadMagic, ByteSwapped, WrongOffset, BadHeader, BadDirEntry, BadBucket, BadHashTable, BadHashEntry, BadAvail, NeedRecovery, ReaderCant, ItemNotFound, CannotReplace, DirOverflow, TooLarge, FileFull, Exists, InUse, NotNumsync, AlreadyAtomic, SameName, InEpoch, NotOpen, VaultFault, ClockFault, OutOfMemory, ClockStood}
-use Rattle.gd_readable.specs.Asks.{Refuses}
+use Rattle.gd_readable.specs.Asks.{Refuses, is_of_readable}
+use Rattle.gd_top.specs.Dump.{FaultOr, is_refusal}
 
-pub told_refusal : (e : DbError) (fault refusal : Type 0) → Refuses e fault refusal → e ≢ OutOfMemory → refusal ⊎ ((e ≡ VaultFault) × fault)
-told_refusal Absent fault refusal h other = inl h
-told_refusal BlockSize fault refusal h other = inl h
-told_refusal ShortFile fault refusal h other = inl h
-told_refusal BadMagic fault refusal h other = inl h
-told_refusal ByteSwapped fault refusal h other = inl h
-told_refusal WrongOffset fault refusal h other = inl h
-told_refusal BadHeader fault refusal h other = inl h
-told_refusal (BadDirEntry i) fault refusal h other = inl h
-told_refusal (BadBucket a) fault refusal h other = inl h
-told_refusal (BadHashTable a) fault refusal h other = inl h
-told_refusal (BadHashEntry a s) fault refusal h other = inl h
-told_refusal (BadAvail a) fault refusal h other = inl h
-told_refusal NeedRecovery fault refusal h other = inl h
-told_refusal ReaderCant fault refusal h other = inl h
-told_refusal ItemNotFound fault refusal h other = inl h
-told_refusal CannotReplace fault refusal h other = inl h
-told_refusal DirOverflow fault refusal h other = inl h
-told_refusal TooLarge fault refusal h other = inl h
-told_refusal FileFull fault refusal h other = inl h
-told_refusal (Exists w) fault refusal h other = inl h
-told_refusal InUse fault refusal h other = inl h
-told_refusal NotNumsync fault refusal h other = inl h
-told_refusal AlreadyAtomic fault refusal h other = inl h
-told_refusal SameName fault refusal h other = inl h
-told_refusal InEpoch fault refusal h other = inl h
-told_refusal NotOpen fault refusal h other = inl h
-told_refusal VaultFault fault refusal h other = inr (refl, h)
-told_refusal ClockFault fault refusal h other = inl h
-told_refusal OutOfMemory fault refusal h other = absurd (other refl)
-told_refusal (ClockStood o n) fault refusal h other = inl h
+pub fault_or : (e : DbError) (fault kind refusal : Type 0) → Refuses e fault refusal → Refuses e (Unit {0}) kind → e ≢ OutOfMemory → FaultOr e fault (kind × refusal)
+fault_or Absent fault kind refusal h k other = (k, h)
+fault_or BlockSize fault kind refusal h k other = (k, h)
+fault_or ShortFile fault kind refusal h k other = (k, h)
+fault_or BadMagic fault kind refusal h k other = (k, h)
+fault_or ByteSwapped fault kind refusal h k other = (k, h)
+fault_or WrongOffset fault kind refusal h k other = (k, h)
+fault_or BadHeader fault kind refusal h k other = (k, h)
+fault_or (BadDirEntry i) fault kind refusal h k other = (k, h)
+fault_or (BadBucket a) fault kind refusal h k other = (k, h)
+fault_or (BadHashTable a) fault kind refusal h k other = (k, h)
+fault_or (BadHashEntry a s) fault kind refusal h k other = (k, h)
+fault_or (BadAvail a) fault kind refusal h k other = (k, h)
+fault_or NeedRecovery fault kind refusal h k other = (k, h)
+fault_or ReaderCant fault kind refusal h k other = (k, h)
+fault_or ItemNotFound fault kind refusal h k other = (k, h)
+fault_or CannotReplace fault kind refusal h k other = (k, h)
+fault_or DirOverflow fault kind refusal h k other = (k, h)
+fault_or TooLarge fault kind refusal h k other = (k, h)
+fault_or FileFull fault kind refusal h k other = (k, h)
+fault_or (Exists w) fault kind refusal h k other = (k, h)
+fault_or InUse fault kind refusal h k other = (k, h)
+fault_or NotNumsync fault kind refusal h k other = (k, h)
+fault_or AlreadyAtomic fault kind refusal h k other = (k, h)
+fault_or SameName fault kind refusal h k other = (k, h)
+fault_or InEpoch fault kind refusal h k other = (k, h)
+fault_or NotOpen fault kind refusal h k other = (k, h)
+fault_or VaultFault fault kind refusal h k other = h
+fault_or ClockFault fault kind refusal h k other = (k, h)
+fault_or OutOfMemory fault kind refusal h k other = absurd (other refl)
+fault_or (ClockStood o n) fault kind refusal h k other = (k, h)
+
+pub fault_or_map : (e : DbError) (a b c d : Type 0) → (a → c) → (b → d) → FaultOr e a b → FaultOr e c d
+fault_or_map Absent j k l m f g h = g h
+fault_or_map BlockSize j k l m f g h = g h
+fault_or_map ShortFile j k l m f g h = g h
+fault_or_map BadMagic j k l m f g h = g h
+fault_or_map ByteSwapped j k l m f g h = g h
+fault_or_map WrongOffset j k l m f g h = g h
+fault_or_map BadHeader j k l m f g h = g h
+fault_or_map (BadDirEntry i) j k l m f g h = g h
+fault_or_map (BadBucket a) j k l m f g h = g h
+fault_or_map (BadHashTable a) j k l m f g h = g h
+fault_or_map (BadHashEntry a s) j k l m f g h = g h
+fault_or_map (BadAvail a) j k l m f g h = g h
+fault_or_map NeedRecovery j k l m f g h = g h
+fault_or_map ReaderCant j k l m f g h = g h
+fault_or_map ItemNotFound j k l m f g h = g h
+fault_or_map CannotReplace j k l m f g h = g h
+fault_or_map DirOverflow j k l m f g h = g h
+fault_or_map TooLarge j k l m f g h = g h
+fault_or_map FileFull j k l m f g h = g h
+fault_or_map (Exists w) j k l m f g h = g h
+fault_or_map InUse j k l m f g h = g h
+fault_or_map NotNumsync j k l m f g h = g h
+fault_or_map AlreadyAtomic j k l m f g h = g h
+fault_or_map SameName j k l m f g h = g h
+fault_or_map InEpoch j k l m f g h = g h
+fault_or_map NotOpen j k l m f g h = g h
+fault_or_map VaultFault j k l m f g h = f h
+fault_or_map ClockFault j k l m f g h = g h
+fault_or_map OutOfMemory j k l m f g h = g h
+fault_or_map (ClockStood o n) j k l m f g h = g h
+
+pub also_refusal : (e : DbError) → is_of_readable e ≡ true → is_refusal e ≡ true
+also_refusal Absent kind = refl
+also_refusal BlockSize kind = kind
+also_refusal ShortFile kind = kind
+also_refusal BadMagic kind = kind
+also_refusal ByteSwapped kind = kind
+also_refusal WrongOffset kind = kind
+also_refusal BadHeader kind = kind
+also_refusal (BadDirEntry i) kind = kind
+also_refusal (BadBucket a) kind = kind
+also_refusal (BadHashTable a) kind = kind
+also_refusal (BadHashEntry a s) kind = kind
+also_refusal (BadAvail a) kind = kind
+also_refusal NeedRecovery kind = kind
+also_refusal ReaderCant kind = kind
+also_refusal ItemNotFound kind = kind
+also_refusal CannotReplace kind = kind
+also_refusal DirOverflow kind = kind
+also_refusal TooLarge kind = kind
+also_refusal FileFull kind = kind
+also_refusal (Exists w) kind = kind
+also_refusal InUse kind = kind
+also_refusal NotNumsync kind = kind
+also_refusal AlreadyAtomic kind = kind
+also_refusal SameName kind = kind
+also_refusal InEpoch kind = kind
+also_refusal NotOpen kind = kind
+also_refusal VaultFault kind = kind
+also_refusal ClockFault kind = kind
+also_refusal OutOfMemory kind = kind
+also_refusal (ClockStood o n) kind = kind

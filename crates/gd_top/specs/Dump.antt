@@ -1,5 +1,5 @@
 -- How a run of the dumper ends: what it prints, what it says, and why.
-use Rattle.std.specs.Prelude.{◌≡◌, ◌⊎◌, ◌∷◌, ◌++◌, ℕ, List, [], Option, Some, None, is_none, codes, if◌then◌else◌, option_and_then, option_map}
+use Rattle.std.specs.Prelude.{◌≡◌, ◌⊎◌, ◌∷◌, ◌++◌, ℕ, Bool, true, List, [], Option, Some, None, is_none, codes, if◌then◌else◌, option_and_then, option_map}
 use Rattle.gd_base.specs.declared.errors.DbError.{DbError}
 use Rattle.gd_base.specs.declared.errors.DbError.TheVariants.{Absent, VaultFault}
 use Rattle.gd_base.specs.Causes.{Rose}
@@ -10,6 +10,7 @@ use Rattle.gd_vault.specs.Views.{Told, View, IsAt, content_of}
 use Rattle.gd_format.specs.HeaderFault.{header_of}
 use Rattle.gd_format.specs.File.{file_fault, front_of, records}
 use Rattle.gd_dump.specs.Ascii.{ascii_text}
+use Rattle.gd_readable.specs.Asks.{Counts, is_of_bucket, is_of_readable}
 use Rattle.gd_top.specs.Words.{Text}
 use Rattle.gd_top.specs.declared.ending.Ending.{Ending}
 use Rattle.gd_top.specs.declared.ending.Ending.TheVariants.{Dumped, Misused, Refused, Broken, OutputFailed, Starved}
@@ -60,8 +61,20 @@ status_untold e = 1
 -- a line was written and the status is that of the ending, or standard error failed in it
 abbrev pub Says : Ending → (status : ℕ) (before now : ℕ) (err0 err1 : Option Text) → Type 0
 Says e status before now err0 err1 =
-    ((status ≡ status_of e) × (err1 ≡ and_then err0 (line_of e)))
+    ((status ≡ status_of e) × (now ≡ before) × (err1 ≡ and_then err0 (line_of e)))
     ⊎ ((status ≡ status_untold e) × Rose before now × WritesFront err0 err1 (line_of e))
+
+-- the whole dump was printed, or no memory was found
+abbrev pub IsQuiet : (status : ℕ) → Type 0
+IsQuiet status = (status ≡ 0) ⊎ (status ≡ 4)
+
+-- ---- how the counts of faults go on: a fault of the vault or of the output ends the run, and nothing else raises a count
+
+abbrev pub Counted : Ending → (vault_before vault_now out_before out_now : ℕ) → Type 0
+Counted (Refused e) vault_before vault_now out_before out_now = Counts e vault_before vault_now × (out_now ≡ out_before)
+Counted (Broken e) vault_before vault_now out_before out_now = Counts e vault_before vault_now × (out_now ≡ out_before)
+Counted OutputFailed vault_before vault_now out_before out_now = vault_now ≡ vault_before
+Counted e vault_before vault_now out_before out_now = (vault_now ≡ vault_before) × (out_now ≡ out_before)
 
 -- ---- what is printed: the whole text, a front of it where the dump was begun, or nothing
 
@@ -73,16 +86,26 @@ Prints e name v out0 out1 = IsAt v (λ c. WritesFront out0 out1 (text_of name (b
 
 -- ---- why: exactly where the content is told, a fault only where its count rose, and want of memory always
 
+-- a fault of the vault, and what else an error says
+abbrev pub FaultOr : DbError → (vault_failed other : Type 0) → Type 0
+FaultOr VaultFault vault_failed other = vault_failed
+FaultOr e vault_failed other = other
+
+-- may a file be refused by an error?
+abbrev pub is_refusal : DbError → Bool
+is_refusal Absent = true
+is_refusal e = is_of_readable e
+
 -- the refusal of the file, or a fault of the vault
 abbrev pub RefusedFor : DbError → Text → View → (vault_failed : Type 0) → Type 0
-RefusedFor e name v vault_failed = IsAt v (λ c. fault_of (bytes_of c name) ≡ Some e) ⊎ ((e ≡ VaultFault) × vault_failed)
+RefusedFor e name v vault_failed = FaultOr e vault_failed ((is_refusal e ≡ true) × IsAt v (λ c. fault_of (bytes_of c name) ≡ Some e))
 
 abbrev pub IsReadable : Text → View → Type 0
 IsReadable name v = IsAt v (λ c. fault_of (bytes_of c name) ≡ None)
 
 -- why a dump that was begun was not ended: a fault of the vault, or one that doesn't tell its content, a fault of the output, or want of memory
 abbrev pub Breaks : Ending → Told → (vault_failed out_failed : Type 0) → Type 0
-Breaks (Broken e) told vault_failed out_failed = ((e ≡ VaultFault) × vault_failed) ⊎ (content_of told ≡ None)
+Breaks (Broken e) told vault_failed out_failed = FaultOr e vault_failed ((is_of_bucket e ≡ true) × (content_of told ≡ None))
 Breaks OutputFailed told vault_failed out_failed = out_failed
 Breaks Starved told vault_failed out_failed = Unit {0}
 Breaks e told vault_failed out_failed = ⊥
@@ -111,10 +134,14 @@ Ends e (Some name) v vault_failed out_failed out0 out1 = EndsFor e name v vault_
 abbrev pub AtFile : View → ℕ → (List ℕ → Type 0) → Type 0
 AtFile v f P = IsAt v (λ c. (x : File) → c.files f ≡ Some x → P x.bytes)
 
+-- the refusal of a file that is there, or a fault of the vault
+abbrev pub RefusedAt : DbError → View → ℕ → (vault_failed : Type 0) → Type 0
+RefusedAt e v f vault_failed = FaultOr e vault_failed ((is_of_readable e ≡ true) × AtFile v f (λ file. file_fault file ≡ Some e))
+
 -- the dump of a file that is there
 abbrev pub EndsAt : Ending → Text → View → ℕ → (vault_failed out_failed : Type 0) → (out0 out1 : Option Text) → Type 0
 EndsAt Dumped name v f vault_failed out_failed out0 out1 = AtFile v f (λ file. (file_fault file ≡ None) × (out1 ≡ and_then out0 (dump_of name file)))
 EndsAt Misused name v f vault_failed out_failed out0 out1 = ⊥
-EndsAt (Refused e) name v f vault_failed out_failed out0 out1 = (AtFile v f (λ file. file_fault file ≡ Some e) ⊎ ((e ≡ VaultFault) × vault_failed)) × (out1 ≡ out0)
+EndsAt (Refused e) name v f vault_failed out_failed out0 out1 = RefusedAt e v f vault_failed × (out1 ≡ out0)
 EndsAt Starved name v f vault_failed out_failed out0 out1 = AtFile v f (λ file. WritesFront out0 out1 (text_of name (Some file)))
 EndsAt e name v f vault_failed out_failed out0 out1 = AtFile v f (λ file. (file_fault file ≡ None) × WritesFront out0 out1 (dump_of name file)) × Breaks e v.told vault_failed out_failed

@@ -10,7 +10,7 @@ ghost use Rattle.gd_format.specs.Headers.{IsHeader};
 ghost use Rattle.gd_format.specs.File.{file_fault, front_of, records};
 ghost use Rattle.gd_dump.specs.Ascii.{ascii_text, pairs_text};
 ghost use Rattle.gd_readable.specs.Standing.{StandsIn, left_of, slots_of_walk};
-ghost use Rattle.gd_top.specs.Dump.{AtFile, Breaks, EndsAt, EndsFor, dump_of};
+ghost use Rattle.gd_top.specs.Dump.{AtFile, Breaks, Counted, EndsAt, EndsFor, dump_of};
 
 use crate::ending::{Ending, refused};
 use gd_base::{DbError, Format, Name, Page, Sink, flush};
@@ -33,6 +33,8 @@ fn put_records<O: Sink, V: Vault>(
     ensures bytes { AtFile (V.view_of vault.old) walk.old.f (λ file. Pends (O.written out.old) page.old.items (O.written out.new) page.new.items result (pairs_text (left_of file walk.old))) }
     ensures count { AtFile (V.view_of vault.old) walk.old.f (λ file. IfOk result (λ n. n ≡ length (left_of file walk.old))) }
     ensures breaks { IfErr result (λ e. Breaks e (V.view_of vault.old).told (Rose (V.view_of vault.old).faults (V.view_of vault.new).faults) (Rose (O.fault_count out.old) (O.fault_count out.new))) }
+    ensures answered { IfOk result (λ _. ((V.view_of vault.new).faults ≡ (V.view_of vault.old).faults) × (O.fault_count out.new ≡ O.fault_count out.old)) }
+    ensures counted { IfErr result (λ e. Counted e (V.view_of vault.old).faults (V.view_of vault.new).faults (O.fault_count out.old) (O.fault_count out.new)) }
     ensures asks { OnlyAsks (V.view_of vault.old) (V.view_of vault.new) }
     ensures later { O.fault_count out.old ≤ O.fault_count out.new }
     ensures kept { O.kept out.old out.new }
@@ -59,6 +61,8 @@ fn put_dump<O: Sink, V: Vault>(
     requires few { slots_of_walk walk.old < 2 ^ 64 }
     ensures bytes { AtFile (V.view_of vault.old) walk.old.f (λ file. Pends (O.written out.old) page.old.items (O.written out.new) page.new.items result (ascii_text (left_of file walk.old) name.now format)) }
     ensures breaks { IfErr result (λ e. Breaks e (V.view_of vault.old).told (Rose (V.view_of vault.old).faults (V.view_of vault.new).faults) (Rose (O.fault_count out.old) (O.fault_count out.new))) }
+    ensures answered { IfOk result (λ _. ((V.view_of vault.new).faults ≡ (V.view_of vault.old).faults) × (O.fault_count out.new ≡ O.fault_count out.old)) }
+    ensures counted { IfErr result (λ e. Counted e (V.view_of vault.old).faults (V.view_of vault.new).faults (O.fault_count out.old) (O.fault_count out.new)) }
     ensures asks { OnlyAsks (V.view_of vault.old) (V.view_of vault.new) }
     ensures later { O.fault_count out.old ≤ O.fault_count out.new }
     ensures kept { O.kept out.old out.new }
@@ -83,6 +87,8 @@ fn write_dump<O: Sink, V: Vault>(
     requires readable { AtFile (V.view_of vault.old) f.0 (λ file. (file_fault file ≡ None) × (header.now ≡ header_of (front_of file))) }
     ensures bytes { AtFile (V.view_of vault.old) f.0 (λ file. Puts (O.written out.old) (O.written out.new) result (dump_of name.now file)) }
     ensures breaks { IfErr result (λ e. Breaks e (V.view_of vault.old).told (Rose (V.view_of vault.old).faults (V.view_of vault.new).faults) (Rose (O.fault_count out.old) (O.fault_count out.new))) }
+    ensures answered { IfOk result (λ _. ((V.view_of vault.new).faults ≡ (V.view_of vault.old).faults) × (O.fault_count out.new ≡ O.fault_count out.old)) }
+    ensures counted { IfErr result (λ e. Counted e (V.view_of vault.old).faults (V.view_of vault.new).faults (O.fault_count out.old) (O.fault_count out.new)) }
     ensures asks { OnlyAsks (V.view_of vault.old) (V.view_of vault.new) }
     ensures later { O.fault_count out.old ≤ O.fault_count out.new }
     ensures kept { O.kept out.old out.new }
@@ -104,6 +110,7 @@ fn dump_file<O: Sink, V: Vault>(
 ) -> Ending
     requires { HasFile (V.view_of vault.old) f.0 }
     ensures ends { EndsAt result name.now (V.view_of vault.old) f.0 (Rose (V.view_of vault.old).faults (V.view_of vault.new).faults) (Rose (O.fault_count out.old) (O.fault_count out.new)) (O.written out.old) (O.written out.new) }
+    ensures counted { Counted result (V.view_of vault.old).faults (V.view_of vault.new).faults (O.fault_count out.old) (O.fault_count out.new) }
     ensures asks { OnlyAsks (V.view_of vault.old) (V.view_of vault.new) }
     ensures later { O.fault_count out.old ≤ O.fault_count out.new }
     ensures kept { O.kept out.old out.new }
@@ -122,6 +129,7 @@ fn dump_file<O: Sink, V: Vault>(
 /// before the next one is read.
 pub fn dump<O: Sink, V: Vault>(alloc: Global, name: &Name, out: &mut O, vault: &mut V) -> Ending
     ensures ends { EndsFor result name.now (V.view_of vault.old) (Rose (V.view_of vault.old).faults (V.view_of vault.new).faults) (Rose (O.fault_count out.old) (O.fault_count out.new)) (O.written out.old) (O.written out.new) }
+    ensures counted { Counted result (V.view_of vault.old).faults (V.view_of vault.new).faults (O.fault_count out.old) (O.fault_count out.new) }
     ensures asks { OnlyAsks (V.view_of vault.old) (V.view_of vault.new) }
     ensures later { O.fault_count out.old ≤ O.fault_count out.new }
     ensures kept { O.kept out.old out.new }

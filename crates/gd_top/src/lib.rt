@@ -5,19 +5,18 @@ ghost use Rattle.std.specs.Prelude.{◌≡◌, ◌≤◌, ◌↔◌, None, map, 
 ghost use Rattle.gd_base.specs.Causes.{Rose};
 ghost use Rattle.gd_vault.specs.Views.{OnlyAsks};
 ghost use Rattle.gd_top.specs.declared.ending.Ending.{Ending};
-ghost use Rattle.gd_top.specs.Dump.{Ends, Says};
+ghost use Rattle.gd_top.specs.Dump.{Counted, Ends, IsQuiet, Says};
 ghost use Rattle.gd_top.specs.Words.{reading};
 
 mod dump;
 mod ending;
-mod host;
 mod words;
 
 use dump::dump;
 pub use ending::{Ending, report};
 use gd_base::{Clock, Sink, Source};
+pub use gd_host::{HostClock, HostSink, HostSource, HostVault, host_words};
 use gd_vault::Vault;
-pub use host::{HostClock, HostSink, HostSource, HostVault, host_words};
 use std::alloc::Global;
 pub use words::Refusal;
 use words::name_of;
@@ -45,6 +44,7 @@ fn dump_words<O: Sink, V: Vault>(
     vault: &mut V,
 ) -> Ending
     ensures ends { Ends result (reading (map string_bytes words.now)) (V.view_of vault.old) (Rose (V.view_of vault.old).faults (V.view_of vault.new).faults) (Rose (O.fault_count out.old) (O.fault_count out.new)) (O.written out.old) (O.written out.new) }
+    ensures counted { Counted result (V.view_of vault.old).faults (V.view_of vault.new).faults (O.fault_count out.old) (O.fault_count out.new) }
     ensures asks { OnlyAsks (V.view_of vault.old) (V.view_of vault.new) }
     ensures later { O.fault_count out.old ≤ O.fault_count out.new }
     ensures kept { O.kept out.old out.new }
@@ -73,7 +73,11 @@ pub fn run<S: Source, O: Sink, E: Sink, V: Vault, C: Clock>(
     // There is one way in which the run ended: why it came, and what was printed and said.
     ensures ends { (e : Ending)
         × Ends e (reading (map string_bytes words.now)) (V.view_of vault.old) (Rose (V.view_of vault.old).faults (V.view_of vault.new).faults) (Rose (O.fault_count out.old) (O.fault_count out.new)) (O.written out.old) (O.written out.new)
+        × Counted e (V.view_of vault.old).faults (V.view_of vault.new).faults (O.fault_count out.old) (O.fault_count out.new)
         × Says e result.status (E.fault_count err.old) (E.fault_count err.new) (E.written err.old) (E.written err.new) }
+
+    // No count of faults rose where the whole dump was printed or no memory was found.
+    ensures quiet { IsQuiet result.status → ((V.view_of vault.new).faults ≡ (V.view_of vault.old).faults) × (O.fault_count out.new ≡ O.fault_count out.old) × (E.fault_count err.new ≡ E.fault_count err.old) }
 
     // The input and the clock are left alone.
     ensures input { (S.left input.new ≡ S.left input.old) × (S.fault_count input.new ≡ S.fault_count input.old) }

@@ -1,13 +1,12 @@
 ghost use Rattle.std.specs.Prelude.{◌≡◌, IfOk, IsErr};
 ghost use Rattle.gd_base.specs.Causes.{HasCause};
-ghost use Rattle.gd_top.specs.Host.{untold};
+ghost use Rattle.gd_host.specs.Host.{untold};
 
-use crate::{HostClock, HostSink, HostSource, HostVault, Tool, run};
-use gd_base::{CallList, Clock, Datum, Failed, MemClock, MemSink, MemSource, Name, Sink, Source};
+use crate::{Tool, run};
+use gd_base::{CallList, Datum, Failed, MemClock, MemSink, MemSource, Name, Sink};
 use gd_memvault::MemVault;
 use gd_vault::{CreateError, FileId, Mode, Vault};
 use std::alloc::{AllocError, Global};
-use std::fs;
 use std::process::Abort;
 use std::test::Fail;
 
@@ -214,6 +213,13 @@ const LONG: Record<'static> = Record {
     value: &[b'a'; 58],
 };
 
+const OTHER_HASH: Record<'static> = Record {
+    slot: 7,
+    hash: 453_608_216,
+    key: b"k",
+    value: b"v",
+};
+
 fn plain<'a>(block: u32, records: &'a [Record<'a>]) -> Layout<'a> {
     let end = 3 * u64::from(block);
     Layout {
@@ -225,163 +231,244 @@ fn plain<'a>(block: u32, records: &'a [Record<'a>]) -> Layout<'a> {
     }
 }
 
-const HEAD: &str =
-    "# GDBM dump file created by gdbm_dump\n#:version=1.1\n#:file=a.gdbm\n#:format=standard\n# End of header\n";
-
-const ONE: &str = "#:len=1\naw==\n#:len=1\ndg==\n#:count=1\n# End of data\n";
-
-// A file is dumped as its head and these lines.
-fn check_dump(rt: &impl Abort, alloc: Global, layout: &Layout, data: &str) -> Result<(), Fail> {
-    let mut vault = vault_of(alloc, "data/a.gdbm", file_of(alloc, layout)?)?;
-    let ran = run_over(alloc, &["data/a.gdbm"], &mut vault, &[], &[])?;
-    let text = format!(in alloc; "{HEAD}{data}")?;
-    assert_eq!(rt; ran.status, 0);
-    assert_eq!(rt; ran.out.bytes(), text.as_bytes());
-    assert!(rt; ran.err.bytes().is_empty());
-    Ok(())
-}
-
-// The worked file, byte for byte, has a free extent of 510 bytes at 1,538. The original magic, an allocated end below the
-// length and free space over the record do not matter to a reader.
-#[test]
-fn one_record_is_dumped(rt: HostRuntime) -> Result<(), Fail> {
-    let alloc = rt.alloc();
-    let one = [K];
-    let worked = Layout {
+// The worked file, byte for byte, has a free extent of 510 bytes at 1,538.
+fn worked(magic: u32) -> Layout<'static> {
+    Layout {
+        magic,
+        block: 512,
+        next_block: 2048,
         free: (510, 1538),
-        ..plain(512, &one)
-    };
-    check_dump(&rt, alloc, &worked, ONE)?;
-    let original = Layout {
-        magic: 0x1357_9ace,
-        ..worked
-    };
-    check_dump(&rt, alloc, &original, ONE)?;
-    let crowded = Layout {
-        next_block: 1024,
-        free: (2, 1536),
-        ..worked
-    };
-    check_dump(&rt, alloc, &crowded, ONE)
+        records: &[K],
+    }
 }
 
-#[test]
-fn other_records_are_dumped(rt: HostRuntime) -> Result<(), Fail> {
-    let alloc = rt.alloc();
-    let none = "#:count=0\n# End of data\n";
-    check_dump(&rt, alloc, &plain(512, &[]), none)?;
-    let high = "#:len=1\ngA==\n#:len=1\ndg==\n#:count=1\n# End of data\n";
-    check_dump(&rt, alloc, &plain(512, &[HIGH]), high)?;
-    let empty = "#:len=0\n#:len=0\n#:count=1\n# End of data\n";
-    check_dump(&rt, alloc, &plain(4096, &[EMPTY]), empty)?;
-    let long =
-        "#:len=1\naw==\n#:len=58\nYWFhYWFhYWFhYWFhYWFhYWFhYWFhYWFhYWFhYWFhYWFhYWFhYWFhYWFhYWFhYWFhYWFhYWFhYWFh\nYQ==\n#:count=1\n# End of data\n";
-    check_dump(&rt, alloc, &plain(512, &[LONG]), long)
+// What a file is answered: the lines of its format and of its records, or an error.
+#[derive(Clone, Copy)]
+enum Answer<'a> {
+    Dump(&'a str, &'a str),
+    Error(&'a str),
 }
 
-#[test]
-fn a_numsync_file_has_its_format(rt: HostRuntime) -> Result<(), Fail> {
-    let alloc = rt.alloc();
-    let one = [K];
-    let numsync = Layout {
-        magic: 0x1357_9ad1,
-        ..plain(512, &one)
+fn file_is_answered(
+    rt: &impl Abort,
+    alloc: Global,
+    file: Vec<u8>,
+    answer: Answer,
+) -> Result<(), Fail> {
+    let mut vault = vault_of(alloc, "data/a.gdbm", file)?;
+    let ran = run_over(alloc, &["data/a.gdbm"], &mut vault, &[], &[])?;
+    let (status, out, err) = match answer {
+        Answer::Dump(format, data) => (
+            0,
+            format!(in alloc; "{HEAD}{format}\n# End of header\n{data}# End of data\n")?,
+            String::new(alloc),
+        ),
+        Answer::Error(error) => (
+            1,
+            String::new(alloc),
+            format!(in alloc; "gdbm_dump: error {error}\n")?,
+        ),
     };
-    let mut vault = vault_of(alloc, "a", file_of(alloc, &numsync)?)?;
-    let ran = run_over(alloc, &["a"], &mut vault, &[], &[])?;
-    assert_eq!(rt; ran.status, 0);
-    let text =
-        "# GDBM dump file created by gdbm_dump\n#:version=1.1\n#:file=a\n#:format=numsync\n# End of header\n#:len=1\naw==\n#:len=1\ndg==\n#:count=1\n# End of data\n";
-    assert_eq!(rt; ran.out.bytes(), text.as_bytes());
+    assert_eq!(rt; ran.status, status);
+    assert_eq!(rt; ran.out.bytes(), out.as_bytes());
+    assert_eq!(rt; ran.err.bytes(), err.as_bytes());
     Ok(())
 }
 
-// A file is refused by this error, and nothing is printed.
-fn check_refusal(rt: &impl Abort, alloc: Global, file: Vec<u8>, error: &str) -> Result<(), Fail> {
-    let mut vault = vault_of(alloc, "a", file)?;
-    let ran = run_over(alloc, &["a"], &mut vault, &[], &[])?;
-    let line = format!(in alloc; "gdbm_dump: error {error}\n")?;
-    assert_eq!(rt; ran.status, 1);
-    assert_eq!(rt; ran.err.bytes(), line.as_bytes());
-    assert!(rt; ran.out.bytes().is_empty());
+const HEAD: &str = "# GDBM dump file created by gdbm_dump\n#:version=1.1\n#:file=a.gdbm\n#:format=";
+
+const ONE: &str = "#:len=1\naw==\n#:len=1\ndg==\n#:count=1\n";
+
+const NONE: &str = "#:count=0\n";
+
+// The original magic, an allocated end below the length and free space over the record do not matter to a reader. The
+// fields of the numsync format end at 72.
+#[test]
+fn files_are_dumped_or_refused(rt: HostRuntime) -> Result<(), Fail> {
+    let alloc = rt.alloc();
+    let high = "#:len=1\ngA==\n#:len=1\ndg==\n#:count=1\n";
+    let empty = "#:len=0\n#:len=0\n#:count=1\n";
+    let long =
+        "#:len=1\naw==\n#:len=58\nYWFhYWFhYWFhYWFhYWFhYWFhYWFhYWFhYWFhYWFhYWFhYWFhYWFhYWFhYWFhYWFhYWFhYWFhYWFh\nYQ==\n#:count=1\n";
+    let numsync = 0x1357_9ad1;
+    let rows: [(u32, u32, u64, u32, &[Record], usize, Answer); 16] = [
+        (
+            STANDARD,
+            512,
+            2048,
+            510,
+            &[K],
+            1538,
+            Answer::Dump("standard", ONE),
+        ),
+        (
+            0x1357_9ace,
+            512,
+            2048,
+            510,
+            &[K],
+            1538,
+            Answer::Dump("standard", ONE),
+        ),
+        (
+            STANDARD,
+            512,
+            1024,
+            512,
+            &[K],
+            1538,
+            Answer::Dump("standard", ONE),
+        ),
+        (
+            numsync,
+            512,
+            2048,
+            512,
+            &[K],
+            1538,
+            Answer::Dump("numsync", ONE),
+        ),
+        (
+            STANDARD,
+            512,
+            2048,
+            512,
+            &[],
+            1536,
+            Answer::Dump("standard", NONE),
+        ),
+        (
+            STANDARD,
+            512,
+            2048,
+            512,
+            &[HIGH],
+            1538,
+            Answer::Dump("standard", high),
+        ),
+        (
+            STANDARD,
+            4096,
+            16384,
+            4096,
+            &[EMPTY],
+            12288,
+            Answer::Dump("standard", empty),
+        ),
+        (
+            STANDARD,
+            512,
+            2048,
+            512,
+            &[LONG],
+            1595,
+            Answer::Dump("standard", long),
+        ),
+        (
+            0xcf9a_5713,
+            512,
+            2048,
+            512,
+            &[],
+            1536,
+            Answer::Error("5 ByteSwapped"),
+        ),
+        (
+            0x1357_9acd,
+            512,
+            2048,
+            512,
+            &[],
+            1536,
+            Answer::Error("6 WrongOffset"),
+        ),
+        (0, 512, 2048, 512, &[], 1536, Answer::Error("4 BadMagic")),
+        (
+            STANDARD,
+            768,
+            3072,
+            768,
+            &[],
+            2304,
+            Answer::Error("2 BlockSize"),
+        ),
+        (
+            STANDARD,
+            512,
+            1 << 47,
+            512,
+            &[],
+            1536,
+            Answer::Error("7 BadHeader"),
+        ),
+        (
+            STANDARD,
+            512,
+            2048,
+            512,
+            &[OTHER_HASH],
+            1538,
+            Answer::Error("11 BadHashEntry 1024 7"),
+        ),
+        (
+            numsync,
+            512,
+            2048,
+            512,
+            &[],
+            60,
+            Answer::Error("3 ShortFile"),
+        ),
+        (
+            numsync,
+            768,
+            3072,
+            768,
+            &[],
+            60,
+            Answer::Error("3 ShortFile"),
+        ),
+    ];
+    for (magic, block, next_block, free, records, len, answer) in rows {
+        let layout = Layout {
+            magic,
+            block,
+            next_block,
+            free: (free, 3 * u64::from(block)),
+            records,
+        };
+        let mut file = file_of(alloc, &layout)?;
+        file.truncate(len);
+        file_is_answered(&rt, alloc, file, answer)?;
+    }
     Ok(())
 }
 
 #[test]
 fn what_is_no_database_is_refused(rt: HostRuntime) -> Result<(), Fail> {
-    let alloc = rt.alloc();
-    check_refusal(&rt, alloc, Vec::new(alloc), "3 ShortFile")?;
-    check_refusal(&rt, alloc, [0xcf; 39].to_vec(alloc)?, "3 ShortFile")?;
-    let text = b"some text that is no database, of more than forty bytes".to_vec(alloc)?;
-    check_refusal(&rt, alloc, text, "4 BadMagic")?;
-    for (magic, error) in [
-        (0xcf9a_5713, "5 ByteSwapped"),
-        (0x1357_9acd, "6 WrongOffset"),
-        (0, "4 BadMagic"),
-    ] {
-        let layout = Layout {
-            magic,
-            ..plain(512, &[])
-        };
-        check_refusal(&rt, alloc, file_of(alloc, &layout)?, error)?;
+    let text = b"some text that is no database, of more than forty bytes".as_slice();
+    let rows = [
+        (b"".as_slice(), "3 ShortFile"),
+        ([0xcf; 39].as_slice(), "3 ShortFile"),
+        (text, "4 BadMagic"),
+    ];
+    for (bytes, error) in rows {
+        let file = bytes.to_vec(rt.alloc())?;
+        file_is_answered(&rt, rt.alloc(), file, Answer::Error(error))?;
     }
     Ok(())
 }
 
-#[test]
-fn damaged_files_are_refused(rt: HostRuntime) -> Result<(), Fail> {
-    let alloc = rt.alloc();
-    let plain = plain(512, &[]);
-    let odd = Layout {
-        block: 768,
-        ..plain
-    };
-    check_refusal(&rt, alloc, file_of(alloc, &odd)?, "2 BlockSize")?;
-    let far = Layout {
-        next_block: 1 << 47,
-        ..plain
-    };
-    check_refusal(&rt, alloc, file_of(alloc, &far)?, "7 BadHeader")?;
-    let changed = [Record {
-        hash: 453_608_216,
-        ..K
-    }];
-    let changed = Layout {
-        records: &changed,
-        ..plain
-    };
-    check_refusal(
-        &rt,
-        alloc,
-        file_of(alloc, &changed)?,
-        "11 BadHashEntry 1024 7",
-    )
-}
-
 // The worked file, with some of its bytes changed and its end cut off.
-#[derive(Clone, Copy)]
-struct Change<'a> {
-    bytes: &'a [(usize, u8)],
-    len: usize,
-    error: &'a str,
-}
-
-fn changed(alloc: Global, change: &Change) -> Result<Vec<u8>, Fail> {
-    let one = [K];
-    let mut file = file_of(
-        alloc,
-        &Layout {
-            free: (510, 1538),
-            ..plain(512, &one)
-        },
-    )?;
-    for (at, byte) in change.bytes {
+fn changed(alloc: Global, bytes: &[(usize, u8)], len: usize) -> Result<Vec<u8>, Fail> {
+    let mut file = file_of(alloc, &worked(STANDARD))?;
+    for (at, byte) in bytes {
         let Some(place) = file.get_mut(*at) else {
             return Err("a place in the file".into());
         };
         *place = *byte;
     }
-    file.truncate(change.len);
+    file.truncate(len);
     Ok(file)
 }
 
@@ -403,59 +490,40 @@ const MOVED: [(usize, u8); 12] = [
 
 #[test]
 fn changed_bytes_are_refused(rt: HostRuntime) -> Result<(), Fail> {
-    let alloc = rt.alloc();
-    let rows: [(&[(usize, u8)], usize, &str); 14] = [
-        (&[(28, 0x11)], 1538, "7 BadHeader"),
-        (&[], 1023, "7 BadHeader"),
-        (&[], 40, "7 BadHeader"),
-        (&[(553, 0x08)], 1538, "8 BadDirEntry 5"),
-        (&[], 1535, "8 BadDirEntry 0"),
-        (&[(1128, 0x01)], 1538, "8 BadDirEntry 32"),
-        (&[(1128, 0x07)], 1538, "9 BadBucket 1024"),
-        (&[(1024, 0x07)], 1538, "9 BadBucket 1024"),
-        (&[(1132, 0x02)], 1538, "10 BadHashTable 1024"),
-        (&MOVED, 1538, "10 BadHashTable 1024"),
-        (&[(1324, 0x02)], 1538, "11 BadHashEntry 1024 7"),
-        (&[(1536, 0x6c)], 1538, "11 BadHashEntry 1024 7"),
-        (&[], 1537, "11 BadHashEntry 1024 7"),
-        (&[(1304, 0x18)], 1538, "11 BadHashEntry 1024 7"),
+    // A second free extent that covers the record does not matter to a reader.
+    let covered = [(1024, 2), (1048, 2), (1057, 0x06)];
+    let rows: [(&[(usize, u8)], usize, Answer); 15] = [
+        (&covered, 1538, Answer::Dump("standard", ONE)),
+        (&[(28, 0x11)], 1538, Answer::Error("7 BadHeader")),
+        (&[], 1023, Answer::Error("7 BadHeader")),
+        (&[], 40, Answer::Error("7 BadHeader")),
+        (&[(553, 0x08)], 1538, Answer::Error("8 BadDirEntry 5")),
+        (&[], 1535, Answer::Error("8 BadDirEntry 0")),
+        (&[(1128, 0x01)], 1538, Answer::Error("8 BadDirEntry 32")),
+        (&[(1128, 0x07)], 1538, Answer::Error("9 BadBucket 1024")),
+        (&[(1024, 0x07)], 1538, Answer::Error("9 BadBucket 1024")),
+        (&[(1132, 0x02)], 1538, Answer::Error("10 BadHashTable 1024")),
+        (&MOVED, 1538, Answer::Error("10 BadHashTable 1024")),
+        (
+            &[(1324, 0x02)],
+            1538,
+            Answer::Error("11 BadHashEntry 1024 7"),
+        ),
+        (
+            &[(1536, 0x6c)],
+            1538,
+            Answer::Error("11 BadHashEntry 1024 7"),
+        ),
+        (&[], 1537, Answer::Error("11 BadHashEntry 1024 7")),
+        (
+            &[(1304, 0x18)],
+            1538,
+            Answer::Error("11 BadHashEntry 1024 7"),
+        ),
     ];
-    for (bytes, len, error) in rows {
-        let change = Change { bytes, len, error };
-        check_refusal(&rt, alloc, changed(alloc, &change)?, change.error)?;
-    }
-    Ok(())
-}
-
-// A second free extent that covers the record does not matter to a reader.
-#[test]
-fn free_space_over_a_record_is_passed_over(rt: HostRuntime) -> Result<(), Fail> {
-    let alloc = rt.alloc();
-    let covered = Change {
-        bytes: &[(1024, 2), (1048, 2), (1057, 0x06)],
-        len: 1538,
-        error: "",
-    };
-    let mut vault = vault_of(alloc, "data/a.gdbm", changed(alloc, &covered)?)?;
-    let ran = run_over(alloc, &["data/a.gdbm"], &mut vault, &[], &[])?;
-    let text = format!(in alloc; "{HEAD}{ONE}")?;
-    assert_eq!(&rt; ran.status, 0);
-    assert_eq!(&rt; ran.out.bytes(), text.as_bytes());
-    Ok(())
-}
-
-// The fields of the numsync format end at 72.
-#[test]
-fn fronts_of_a_numsync_file_are_refused(rt: HostRuntime) -> Result<(), Fail> {
-    let alloc = rt.alloc();
-    for block in [512, 768] {
-        let numsync = Layout {
-            magic: 0x1357_9ad1,
-            ..plain(block, &[])
-        };
-        let mut file = file_of(alloc, &numsync)?;
-        file.truncate(60);
-        check_refusal(&rt, alloc, file, "3 ShortFile")?;
+    for (bytes, len, answer) in rows {
+        let file = changed(rt.alloc(), bytes, len)?;
+        file_is_answered(&rt, rt.alloc(), file, answer)?;
     }
     Ok(())
 }
@@ -509,10 +577,13 @@ fn words_and_names_are_refused(rt: HostRuntime) -> Result<(), Fail> {
     Ok(())
 }
 
-// A vault that fails from a call on, and tells nothing.
+// A vault that tells nothing. It fails from a call on, and its file is cut before a read.
 #[derive(Drop)]
 struct Failing {
+    bytes: Vec<u8>,
     calls: u64,
+    reads: u64,
+    cut: usize,
     faults: u64,
 }
 
@@ -560,7 +631,8 @@ impl Vault for Failing {
     }
 
     fn len(&mut self, _f: FileId) -> Result<u64, Failed> {
-        self.answer(1538)
+        let n = self.bytes.len() as u64;
+        self.answer(n)
     }
 
     fn mode(&mut self, _f: FileId) -> Result<Mode, Failed> {
@@ -571,8 +643,20 @@ impl Vault for Failing {
         self.answer(0)
     }
 
-    fn read_at(&mut self, _f: FileId, _at: u64, _buf: &mut [u8]) -> Result<usize, Failed> {
-        self.answer(0)
+    fn read_at(&mut self, _f: FileId, at: u64, buf: &mut [u8]) -> Result<usize, Failed> {
+        self.answer(())?;
+        if self.reads == 0 {
+            self.bytes.truncate(self.cut);
+        }
+        self.reads = self.reads.saturating_sub(1);
+        let bytes = self.bytes.as_slice();
+        if at >= bytes.len() as u64 {
+            return Ok(0);
+        }
+        let rest = &bytes[at as usize..];
+        let n = rest.len().min(buf.len());
+        buf[..n].copy_from_slice(&rest[..n]);
+        Ok(n)
     }
 
     fn write_at(&mut self, _f: FileId, _at: u64, _bytes: &[u8]) -> Result<(), Failed> {
@@ -612,7 +696,13 @@ impl Vault for Failing {
 fn faults_have_their_lines(rt: HostRuntime) -> Result<(), Fail> {
     let alloc = rt.alloc();
     for calls in 0..3 {
-        let mut vault = Failing { calls, faults: 0 };
+        let mut vault = Failing {
+            bytes: Vec::new(alloc),
+            calls,
+            reads: 0,
+            cut: 0,
+            faults: 0,
+        };
         let ran = run_over(alloc, &["a"], &mut vault, &[], &[])?;
         assert_eq!(rt; ran.status, 1);
         assert_eq!(rt; vault.faults, 1);
@@ -634,116 +724,53 @@ fn faults_have_their_lines(rt: HostRuntime) -> Result<(), Fail> {
     Ok(())
 }
 
-#[test]
-fn ranges_of_a_host_file(rt: HostRuntime) -> Result<(), Fail> {
-    let alloc = rt.alloc();
-    let name = Name::new(alloc, "ranges")?;
-    let mut vault = HostVault::new(&rt, alloc);
-    assert!(rt; vault.lookup(&name) == Ok(None));
-    let f = vault.create(&name, Mode::Both).map_err(|_| "a new file")?;
-    assert!(rt; vault.create(&name, Mode::Both) == Err(CreateError::Exists));
-    assert!(rt; vault.write_at(f, 0, b"ab") == Ok(()));
-    assert!(rt; vault.write_at(f, 4, b"cd") == Ok(()));
-    assert!(rt; vault.write_at(f, u64::MAX, b"x") == Err(Failed));
-    let mut buf = *b"........";
-    assert!(rt; vault.read_at(f, 1, &mut buf) == Ok(5));
-    assert_eq!(rt; buf, *b"b\0\0cd...");
-    assert!(rt; vault.read_at(f, u64::MAX, &mut buf) == Ok(0));
-    assert!(rt; vault.truncate(f) == Ok(()));
-    assert!(rt; vault.len(f) == Ok(0));
-    assert!(rt; vault.len(FileId(77)) == Err(Failed));
-    assert_eq!(rt; vault.faults(), 2);
-    Ok(fs::remove_file(&rt, "ranges")?)
-}
-
-// Small reads go through pages that are kept: each change of the file is seen, and so is its end.
-#[test]
-fn pages_of_a_host_file(rt: HostRuntime) -> Result<(), Fail> {
-    let alloc = rt.alloc();
-    let name = Name::new(alloc, "pages")?;
-    let mut vault = HostVault::new(&rt, alloc);
-    let f = vault.create(&name, Mode::Both).map_err(|_| "a new file")?;
-    let mut buf = *b"....";
-    assert!(rt; vault.write_at(f, 0, &[b'a'; 4098]) == Ok(()));
-    assert!(rt; vault.read_at(f, 4094, &mut buf) == Ok(4));
-    assert_eq!(rt; buf, *b"aaaa");
-    assert!(rt; vault.write_at(f, 4095, b"bcd") == Ok(()));
-    assert!(rt; vault.read_at(f, 4094, &mut buf) == Ok(4));
-    assert_eq!(rt; buf, *b"abcd");
-    assert!(rt; vault.read_at(f, 4096, &mut buf) == Ok(2));
-    assert!(rt; vault.write_at(f, 4098, b"ef") == Ok(()));
-    assert!(rt; vault.read_at(f, 4096, &mut buf) == Ok(4));
-    assert_eq!(rt; buf, *b"cdef");
-    assert!(rt; vault.truncate(f) == Ok(()));
-    assert!(rt; vault.read_at(f, 4096, &mut buf) == Ok(0));
-    assert_eq!(rt; vault.faults(), 0);
-    Ok(fs::remove_file(&rt, "pages")?)
-}
-
-#[test]
-fn companions_of_host_files(rt: HostRuntime) -> Result<(), Fail> {
-    let alloc = rt.alloc();
-    let name = Name::new(alloc, "marked")?;
-    let mut vault = HostVault::new(&rt, alloc);
-    let f = vault
-        .create(&name, Mode::WriteOnly)
-        .map_err(|_| "a new file")?;
-    assert!(rt; vault.mode(f) == Ok(Mode::WriteOnly));
-    assert!(rt; vault.set_mode(f, Mode::ReadOnly) == Ok(()));
-    assert_eq!(rt; fs::read_to_string(&rt, "marked.mode")?.as_str(), "r 0\n");
-    fs::write(&rt, "marked.mode", "r 01\n")?;
-    assert!(rt; vault.stamp(f) == Err(Failed));
-    fs::write(&rt, "marked.mode", "b 7\n")?;
-    assert!(rt; vault.stamp(f) == Ok(7));
-    assert!(rt; vault.sync(f) == Ok(()));
-    assert!(rt; vault.remove(&name) == Ok(()));
-    assert!(rt; fs::metadata(&rt, "marked.mode").is_err());
-    assert_eq!(rt; vault.faults(), 1);
-    Ok(())
-}
-
-#[test]
-fn names_of_host_files(rt: HostRuntime) -> Result<(), Fail> {
-    let alloc = rt.alloc();
-    let (one, two) = (Name::new(alloc, "one")?, Name::new(alloc, "folder/two")?);
-    fs::create_dir(&rt, "folder")?;
-    fs::write(&rt, "one", "hello")?;
-    let mut vault = HostVault::new(&rt, alloc);
-    assert!(rt; vault.lookup(&Name::new(alloc, "folder")?) == Err(Failed));
-    let g = vault
-        .create(&two, Mode::ReadOnly)
-        .map_err(|_| "a new file")?;
-    let Ok(Some(f)) = vault.lookup(&one) else {
-        return Err("a file".into());
+// A dump of a file that is cut before a read.
+fn cut_run(alloc: Global, file: &[u8], reads: u64, cut: usize) -> Result<Ran, Fail> {
+    let mut vault = Failing {
+        bytes: file.to_vec(alloc)?,
+        calls: u64::MAX,
+        reads,
+        cut,
+        faults: 0,
     };
-    assert!(rt; vault.clone_into(g, f, 9) == Ok(()));
-    assert!(rt; vault.sync_names() == Ok(()));
-    assert!(rt; vault.replace(&two, &one) == Ok(()));
-    assert!(rt; vault.lookup(&two) == Ok(None));
-    assert!(rt; vault.lookup(&one) == Ok(Some(g)));
-    assert!(rt; vault.mode(g) == Ok(Mode::ReadOnly));
-    assert!(rt; vault.stamp(g) == Ok(9));
-    assert!(rt; vault.len(g) == Ok(5));
-    fs::hard_link(&rt, "one", "link")?;
-    assert!(rt; vault.lookup(&Name::new(alloc, "./link")?) == Ok(Some(g)));
-    assert!(rt; vault.remove(&one) == Ok(()));
-    let nowhere = vault.create(&Name::new(alloc, "none/x")?, Mode::Both);
-    assert!(rt; nowhere == Err(CreateError::Failed));
-    fs::remove_file(&rt, "link")?;
-    Ok(fs::remove_dir(&rt, "folder")?)
+    run_over(alloc, &["a"], &mut vault, &[], &[])
 }
 
+// A file that is cut while it is read is refused, or its dump is broken off, and this is no fault of the vault.
 #[test]
-fn streams_and_clock_of_the_host(rt: HostRuntime) -> Result<(), Fail> {
-    let mut out = HostSink::new(rt.stdout());
-    assert!(rt; out.write(b"\n") == Ok(1));
-    assert_eq!(rt; out.faults(), 0);
-    let mut input = HostSource::new(rt.stdin());
-    let mut buf = [0u8; 4];
-    assert!(rt; input.read(&mut buf).is_ok());
-    assert_eq!(rt; input.faults(), 0);
-    let mut clock = HostClock::new(&rt);
-    assert!(rt; clock.now().is_ok_and(|now| now > 1_600_000_000_000_000_000));
-    assert_eq!(rt; clock.faults(), 0);
+fn a_file_that_is_cut_breaks_its_dump_off(rt: HostRuntime) -> Result<(), Fail> {
+    let alloc = rt.alloc();
+    let long = [b'a'; 6000];
+    let two = [Record { value: &long, ..K }, HIGH];
+    let file = file_of(alloc, &plain(512, &two))?;
+    let rows = [
+        (0, b"gdbm_dump: error 8 BadDirEntry 0\n".as_slice()),
+        (
+            1536,
+            b"gdbm_dump: error 11 BadHashEntry 1024 7\n".as_slice(),
+        ),
+        (
+            7538,
+            b"gdbm_dump: error 11 BadHashEntry 1024 14\n".as_slice(),
+        ),
+    ];
+    for (cut, line) in rows {
+        let whole = cut_run(alloc, &file, u64::MAX, cut)?;
+        assert_eq!(&rt; whole.status, 0);
+        let mut told = false;
+        let mut begun = false;
+        for reads in 0..1000 {
+            let ran = cut_run(alloc, &file, reads, cut)?;
+            if ran.status == 0 {
+                break;
+            }
+            assert_eq!(&rt; ran.status, 1);
+            assert!(&rt; whole.out.bytes().starts_with(ran.out.bytes()));
+            assert!(&rt; !ran.err.bytes().ends_with(b"Fault\n"));
+            told = told || ran.err.bytes() == line;
+            begun = begun || !ran.out.bytes().is_empty();
+        }
+        assert!(&rt; told && begun);
+    }
     Ok(())
 }

@@ -1,4 +1,4 @@
-use Rattle.std.proofs.Common.{◌≡◌, ◌∙◌, ◌<◌, [], ◌∷◌, ◌++◌, Some, ap, sym, arith, length}
+use Rattle.std.proofs.Common.{◌≡◌, ◌∙◌, ◌<◌, [], ◌∷◌, ◌++◌, Some, refl, ap, sym, arith, length}
 use Rattle.gd_base.specs.Pages.{Pends}
 use Rattle.gd_base.proofs.Waits.{Waits, pends-after, pends-front, waits-more}
 use Rattle.gd_vault.specs.Content.{File}
@@ -7,6 +7,7 @@ use Rattle.gd_dump.specs.Ascii.{pair_text, pairs_text}
 use Rattle.gd_readable.specs.Standing.{StandsIn, left_of, slots_of_walk}
 use Rattle.gd_top.specs.Dump.{AtFile}
 use Rattle.gd_top.proofs.Files.{asks_on, at_now, pends_stop}
+use Rattle.gd_top.proofs.Ends.{counted_on, err_map, output_counts, walk_counts}
 use Rattle.gd_top.proofs.Pairs.{pairs_more}
 use Rattle.gd_top.proofs.dump.put_records.Goals as goal
 
@@ -64,7 +65,8 @@ records-preserved g c =
           let more : length (left_of x.bytes c.records.walk) ≡ length ((c.in-Some.key, c.in-Some.value) ∷ left_of x.bytes c.next.new.self) = ap length next in
           omega (arith, old.count d told x is, more);
       few = omega (arith, old.few, further);
-      faults = omega (arith, old.faults, c.put_pair.ensures.cause.later);
+      answered = c.in_ok-key.ensures.answered ∙ old.answered;
+      faults = c.in_ok-put_pair.ensures.cause.answered ∙ old.faults;
       kept = g.met.O.Sink.kept_on c.args.out.now c.records.out c.put_pair.new.out old.kept c.put_pair.ensures.kept;
     }
 
@@ -75,3 +77,20 @@ returns-clause-count g c =
     let none : AtFile (g.V.Vault.view_of c.records.vault) c.records.walk.f (λ file. left_of file c.records.walk ≡ []) = rw c.in_default.is at c.in_ok-key.ensures.none in
     let end : length (left_of x.bytes c.records.walk) ≡ 0 = ap length (none d (ap content_of old.asks.told ∙ told) x (ap d.files old.file ∙ is)) in
     omega (arith, old.count d told x is, end)
+
+pub returns-in_err-key-clause-counted : goal.returns-in_err-key-clause-counted
+returns-in_err-key-clause-counted g c =
+    let old = c.records.invariant in
+    err_map _ _ c.from_residual.result c.from_residual.ensures.1
+    (λ e gives. counted_on e _ _ _ _ _ _ (walk_counts _ e _ _ _ _ gives c.in_err-key.ensures.counted refl) old.answered old.faults)
+
+pub returns-in_err-put_pair-clause-counted : goal.returns-in_err-put_pair-clause-counted
+returns-in_err-put_pair-clause-counted g c =
+    let old = c.records.invariant in
+    err_map _ _ c.from_residual-in_err-put_pair.result c.from_residual-in_err-put_pair.ensures.1
+    (λ e gives. output_counts e _ _ _ _ gives (c.in_ok-key.ensures.answered ∙ old.answered))
+
+pub returns-clause-answered : goal.returns-clause-answered
+returns-clause-answered g c =
+    let old = c.records.invariant in
+    (c.in_ok-key.ensures.answered ∙ old.answered, old.faults)

@@ -19,7 +19,8 @@ invariant-records g l =
           × (pairs_text (left_of file l.fn.walk) ≡ front ++ pairs_text (left_of file l.walk)));
       count : AtFile view l.fn.walk.f (λ file. l.count + length (left_of file l.walk) ≡ length (left_of file l.fn.walk));
       few : l.count + slots_of_walk l.walk ≤ slots_of_walk l.fn.walk;
-      faults : sink.fault_count l.fn.out ≤ sink.fault_count l.out;
+      answered : (g.V.Vault.view_of l.vault).faults ≡ view.faults;
+      faults : sink.fault_count l.out ≡ sink.fault_count l.fn.out;
       kept : sink.kept l.fn.out l.out;
     }
 
