@@ -6,7 +6,7 @@ ghost use Rattle.gd_base.specs.declared.errors.DbError.TheVariants.{VaultFault};
 ghost use Rattle.gd_vault.specs.Content.{File};
 ghost use Rattle.gd_vault.specs.Effects.{written};
 ghost use Rattle.gd_vault.specs.Views.{HasFile};
-ghost use Rattle.gd_vault.specs.Frame.{Within, OneFile, NoName};
+ghost use Rattle.gd_vault.specs.Streams.{OnlyWrites};
 ghost use Rattle.gd_create.specs.NewFile.{IsNewHeader, new_file};
 ghost use Rattle.gd_create.specs.Stands.{Stands, Becomes};
 
@@ -16,7 +16,7 @@ use gd_format::Header;
 use gd_vault::{FileId, Vault};
 
 // Writes bytes at a place of a file.
-#[tactic(auto, using(gd_vault::proofs::Within::within))]
+#[tactic(auto, using(gd_vault::proofs::Writes::writes))]
 fn write_all<V: Vault>(vault: &mut V, f: FileId, at: u64, bytes: &[u8]) -> Result<(), DbError>
     requires file { HasFile (V.view_of vault.old) f.0 }
     requires place { at ≤ 2 ^ 47 }
@@ -24,7 +24,7 @@ fn write_all<V: Vault>(vault: &mut V, f: FileId, at: u64, bytes: &[u8]) -> Resul
     ensures there { HasFile (V.view_of vault.new) f.0 }
     ensures error { IfErr result (λ e. e ≡ VaultFault) }
     ensures fault { OnErr result (Rose (V.view_of vault.old).faults (V.view_of vault.new).faults) }
-    ensures frame { Within (OneFile f.0) NoName (V.view_of vault.old) (V.view_of vault.new) }
+    ensures frame { OnlyWrites f.0 (V.view_of vault.old) (V.view_of vault.new) }
 {
     match vault.write_at(f, at, bytes) {
         Ok(()) => Ok(()),
@@ -32,8 +32,8 @@ fn write_all<V: Vault>(vault: &mut V, f: FileId, at: u64, bytes: &[u8]) -> Resul
     }
 }
 
-/// Writes the blocks of a new file into one that is empty. `buf` takes one block, and no memory is taken.
-#[tactic(auto, using(gd_vault::proofs::Within::within, crate::proofs::Powers::bounds))]
+/// Writes the blocks of a new file into one that is empty, which keeps its mode and its stamp. `buf` takes one block, and no memory is taken.
+#[tactic(auto, using(gd_vault::proofs::Writes::writes, crate::proofs::Powers::bounds))]
 pub fn make_file<V: Vault>(
     vault: &mut V,
     f: FileId,
@@ -47,7 +47,7 @@ pub fn make_file<V: Vault>(
     ensures there { HasFile (V.view_of vault.new) f.0 }
     ensures error { IfErr result (λ e. e ≡ VaultFault) }
     ensures fault { OnErr result (Rose (V.view_of vault.old).faults (V.view_of vault.new).faults) }
-    ensures frame { Within (OneFile f.0) NoName (V.view_of vault.old) (V.view_of vault.new) }
+    ensures frame { OnlyWrites f.0 (V.view_of vault.old) (V.view_of vault.new) }
 {
     put_header(header, buf);
     write_all(vault, f, 0, buf)?;

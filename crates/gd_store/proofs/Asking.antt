@@ -10,14 +10,40 @@ use Rattle.gd_format.specs.Sound.{sound_fault, space_fault}
 use Rattle.gd_format.proofs.Firsts.{or_else-none}
 use Rattle.gd_vault.specs.Content.{Content}
 use Rattle.gd_vault.specs.Views.{View, HasFile, OnlyAsks, content_of}
-use Rattle.gd_readable.specs.Asks.{Refuses}
 use Rattle.gd_readable.proofs.Refusals.{refuses_map}
 use Rattle.gd_lookup.specs.Open.{OfFile}
 use Rattle.gd_lookup.specs.Reading.{is_of_read, RefusesRead}
 use Rattle.gd_store.specs.declared.access.Access.{Access}
 use Rattle.gd_store.specs.declared.access.Access.TheVariants.{Reader, Writer}
-use Rattle.gd_store.specs.Opened.{Opened, IsRightFor, Fits, OnFile}
-use Rattle.gd_store.specs.Replies.{is_not_found, is_of_asking, RefusedAsking, RefusedBy}
+use Rattle.gd_store.specs.Opened.{Opened, IsRightFor, Fits, OnFile, SameButCached}
+use Rattle.gd_store.specs.Replies.{is_not_found, RefusedAsking}
+
+-- nothing is cached yet
+pub same_cached : (s t : Opened) → t ≡ s → SameButCached s t
+same_cached s t same = record {
+  file = ap (λ (o : Opened). o.file) same;
+  header = ap (λ (o : Opened). o.header) same;
+  table = ap (λ (o : Opened). o.table) same;
+  access = ap (λ (o : Opened). o.access) same;
+  broken = ap (λ (o : Opened). o.broken) same;
+  cache = ap (λ (o : Opened). o.cache) same;
+}
+
+same_open : (s t : Opened) → SameButCached s t → t ≡ s
+same_open s t c =
+    ap (λ (n : ℕ). record t { file = n }) c.file
+    ∙ ap (λ (h : Header). record t { file = s.file; header = h }) c.header
+    ∙ ap (λ (a : Avail). record t { file = s.file; header = s.header; table = a }) c.table
+    ∙ ap (λ (a : Access). record t { file = s.file; header = s.header; table = s.table; access = a }) c.access
+    ∙ ap (λ (b : Bool). record t { file = s.file; header = s.header; table = s.table; access = s.access; broken = b }) c.broken
+    ∙ ap (λ (n : ℕ). record s { cache = n }) c.cache
+
+-- what is cached says nothing else of the file
+pub fits_cached : (v : View) (s t : Opened) → SameButCached s t → Fits v s → Fits v t
+fits_cached v s t c fits = subst (λ (o : Opened). Fits v o) (sym (same_open s t c)) fits
+
+pub file_cached : (v : View) (s t : Opened) → SameButCached s t → HasFile v s.file → HasFile v t.file
+file_cached v s t c there = subst (λ (n : ℕ). HasFile v n) (sym c.file) there
 
 pub is_readable : (access : Access) (h : Header) (table : Avail) (file : List ℕ) → IsRightFor access h table file → file_fault file ≡ None
 unfolding sound_fault

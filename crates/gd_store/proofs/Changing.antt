@@ -1,7 +1,8 @@
 -- Facts of calls that change.
-use Rattle.std.proofs.Common.{◌≡◌, ◌≢◌, ℕ, zero, suc, ◌+◌, ◌^◌, ◌<◌, ◌≤◌, Bool, true, false, ◌||◌, List, length, get_or, Option, Some, None, refl, sym, ap, subst, ◌∙◌, arith}
+use Rattle.std.proofs.Common.{◌≡◌, ◌≢◌, ◌⊎◌, ⊎_elim, ℕ, zero, suc, ◌+◌, ◌^◌, ◌<◌, ◌≤◌, Bool, true, false, ◌||◌, List, length, get_or, Option, Some, None, refl, sym, ap, subst, ◌∙◌, arith}
 use Rattle.std.specs.Prelude.{is_some, Result, Ok, Err, IfErr, OnOk}
 use Rattle.std.specs.FinMap.{remove}
+use Rattle.std.proofs.lemmas.Bool.{leb-true}
 use Rattle.std.proofs.lemmas.Slice.Eq.{bytes_eq-Decides}
 use Rattle.gd_base.specs.Causes.{Rose}
 use Rattle.gd_base.specs.declared.errors.DbError.{DbError}
@@ -30,12 +31,18 @@ use Rattle.gd_change.specs.Open.{IsHere, slot_key, slot_size}
 use Rattle.gd_change.specs.Open as change
 use Rattle.gd_change.proofs.Files as files
 use Rattle.gd_split.proofs.Chains.{one_file}
+use Rattle.gd_grow.specs.Growth.{IsWider}
+use Rattle.gd_grow.specs.Refusals.{is_growth_error}
+use Rattle.gd_space.specs.Effect.{TellsNone}
 use Rattle.gd_store.specs.declared.access.Access.{Access}
 use Rattle.gd_store.specs.declared.access.Access.TheVariants.{Writer}
-use Rattle.gd_store.specs.Changed.{IsChanged, Becomes}
+use Rattle.gd_store.specs.declared.access.How.{How}
+use Rattle.gd_store.specs.declared.access.How.TheVariants.{Insert, Replace}
+use Rattle.gd_store.specs.Changed.{IsChanged, Becomes, is_room_error}
 use Rattle.gd_store.specs.Located.{IsFoundIn}
-use Rattle.gd_store.specs.Opened.{Opened, IsOpenOn, IsRightFor, Fits, OnFile}
-use Rattle.gd_store.specs.Replies.{delete_due, far_due, is_fault, is_fault_of, is_too_far, is_not_found, is_of_asking, is_of_change, pair_size, value_of, RefusedChanging}
+use Rattle.gd_store.specs.Opened.{Opened, IsOpenOn, IsRightFor, Fits, OnFile, SameButCached}
+use Rattle.gd_store.proofs.Asking.{same_cached}
+use Rattle.gd_store.specs.Replies.{delete_due, far_due, is_fault, is_fault_of, is_full_error, is_too_far, is_not_found, is_of_asking, is_of_change, key_due, pair_size, value_of, RefusedBy, RefusedDeleting, RefusedStoring, StoreCause}
 
 -- ---- the slot of a key
 
@@ -277,12 +284,187 @@ or_left : (a b : Bool) → a ≡ true → (a || b) ≡ true
 or_left true b h = refl
 or_left false b h = absurd cc
 
+read_by : (e : DbError) (f : ℕ) (u v : View) (due : List ℕ → Option DbError) → RefusesRead e u v → RefusedBy e f u v due
+read_by e f u v due r = refuses_map e (Rose u.faults v.faults) (content_of u.told ≡ None) (Rose u.faults v.faults) (OnFile u f (λ file. due file ≡ Some e)) (λ h. h) (λ none c x told there. absurd cc) r.cause
+
 -- why a read was refused is why a change was
-pub read_refused : (e : DbError) (f : ℕ) (u v : View) (due : List ℕ → Option DbError) → RefusesRead e u v → RefusedChanging e f u v due
-read_refused e f u v due r = record {
-  kind = or_left (is_of_asking e) (is_of_change e) (or_left (is_of_read e) (is_not_found e) r.kind);
-  cause = refuses_map e (Rose u.faults v.faults) (content_of u.told ≡ None) (Rose u.faults v.faults) (OnFile u f (λ file. due file ≡ Some e)) (λ h. h) (λ none c x told there. absurd cc) r.cause;
+pub read_deleting : (e : DbError) (f : ℕ) (u v : View) (due : List ℕ → Option DbError) → RefusesRead e u v → RefusedDeleting e f u v due
+read_deleting e f u v due r = record {
+  kind = or_left (is_of_asking e) (is_full_error e) (or_left (is_of_read e) (is_not_found e) r.kind);
+  cause = read_by e f u v due r;
 }
 
-pub fault_refused : (e : DbError) (f : ℕ) (u v : View) (due : List ℕ → Option DbError) → e ≡ VaultFault → Rose u.faults v.faults → RefusedChanging e f u v due
-fault_refused e f u v due is rose = rw is (record { kind = refl; cause = rose })
+pub read_storing : (e : DbError) (f : ℕ) (u v : View) (due : List ℕ → Option DbError) → RefusesRead e u v → RefusedStoring e f u v due
+read_storing e f u v due r = record { kind = or_left (is_of_read e) (is_of_change e) r.kind; cause = read_by e f u v due r }
+
+pub fault_deleting : (e : DbError) (f : ℕ) (u v : View) (due : List ℕ → Option DbError) → e ≡ VaultFault → Rose u.faults v.faults → RefusedDeleting e f u v due
+fault_deleting e f u v due is rose = subst (λ (d : DbError). RefusedDeleting d f u v due) (sym is) (record { kind = refl; cause = rose })
+
+pub fault_storing : (e : DbError) (f : ℕ) (u v : View) (due : List ℕ → Option DbError) → e ≡ VaultFault → Rose u.faults v.faults → RefusedStoring e f u v due
+fault_storing e f u v due is rose = subst (λ (d : DbError). RefusedStoring d f u v due) (sym is) (record { kind = refl; cause = rose })
+
+-- ---- what a refusal tells of the arguments
+
+free_cause : (kinds : DbError → Bool) (e : DbError) (how : How) (next size : ℕ) → kinds TooLarge ≡ false → kinds FileFull ≡ false → kinds CannotReplace ≡ false → kinds e ≡ true → StoreCause e how next size
+free_cause kinds e how next size large full there is = record {
+  large = λ same. (let no : kinds TooLarge ≡ true = subst (λ (d : DbError). kinds d ≡ true) same is in absurd (cc (no, large)));
+  full = λ same. (let no : kinds FileFull ≡ true = subst (λ (d : DbError). kinds d ≡ true) same is in absurd (cc (no, full)));
+  there = λ same. (let no : kinds CannotReplace ≡ true = subst (λ (d : DbError). kinds d ≡ true) same is in absurd (cc (no, there)));
+}
+
+-- an error of reads or of growth tells nothing of them
+pub read_cause : (e : DbError) (how : How) (next size : ℕ) → is_of_read e ≡ true → StoreCause e how next size
+read_cause e how next size is = free_cause is_of_read e how next size refl refl refl is
+
+pub room_cause : (e : DbError) (how : How) (next size : ℕ) → is_room_error e ≡ true → StoreCause e how next size
+room_cause e how next size is = free_cause is_room_error e how next size refl refl refl is
+
+pub put_kind : (e : DbError) (v : View) → (e ≡ VaultFault) ⊎ ((a : ℕ) × (e ≡ BadAvail a) × TellsNone v) → is_growth_error e ≡ true
+put_kind e v why = ⊎_elim (λ (h : e ≡ VaultFault). ap is_growth_error h) (λ (h : (a : ℕ) × (e ≡ BadAvail a) × TellsNone v). ap is_growth_error h.1) why
+
+pub growth_cause : (e : DbError) (how : How) (next size : ℕ) → is_growth_error e ≡ true → StoreCause e how next size
+growth_cause e how next size is = free_cause is_growth_error e how next size refl refl refl is
+
+pub put_cause : (e : DbError) (v : View) (how : How) (next size : ℕ) → (e ≡ VaultFault) ⊎ ((a : ℕ) × (e ≡ BadAvail a) × TellsNone v) → StoreCause e how next size
+put_cause e v how next size why = growth_cause e how next size (put_kind e v why)
+
+pub key_cause : (how : How) (p : Option ℕ) (crowded : Bool) (e : DbError) (next size : ℕ) → key_due how p crowded ≡ Some e → StoreCause e how next size
+key_cause Insert (Some p) crowded e next size is = let same : CannotReplace ≡ e = cc in subst (λ (d : DbError). StoreCause d Insert next size) same (record { large = λ h. absurd cc; full = λ h. absurd cc; there = λ h. refl })
+key_cause Replace (Some p) crowded e next size is = absurd cc
+key_cause Insert None true e next size is = let same : DirOverflow ≡ e = cc in subst (λ (d : DbError). StoreCause d Insert next size) same (record { large = λ h. absurd cc; full = λ h. absurd cc; there = λ h. absurd cc })
+key_cause Insert None false e next size is = absurd cc
+key_cause Replace None true e next size is = let same : DirOverflow ≡ e = cc in subst (λ (d : DbError). StoreCause d Replace next size) same (record { large = λ h. absurd cc; full = λ h. absurd cc; there = λ h. absurd cc })
+key_cause Replace None false e next size is = absurd cc
+
+pub far_cause : (how : How) (next size : ℕ) → is_too_far next size ≡ true → StoreCause FileFull how next size
+far_cause how next size far = record { large = λ h. absurd cc; full = λ h. far; there = λ h. absurd cc }
+
+pub large_cause : (how : How) (next size : ℕ) → 2 ^ 30 < size → StoreCause TooLarge how next size
+large_cause how next size large = record { large = λ h. large; full = λ h. absurd cc; there = λ h. absurd cc }
+
+pub recovery_cause : (how : How) (next size : ℕ) → StoreCause NeedRecovery how next size
+recovery_cause how next size = record { large = λ h. absurd cc; full = λ h. absurd cc; there = λ h. absurd cc }
+
+pub reader_cause : (how : How) (next size : ℕ) → StoreCause ReaderCant how next size
+reader_cause how next size = record { large = λ h. absurd cc; full = λ h. absurd cc; there = λ h. absurd cc }
+
+-- a pair of a bucket's slot is that small
+pub far_bound : (next size : ℕ) → size < 2 ^ 32 → is_too_far next size ≡ true → 2 ^ 46 < next + 2 ^ 32 + 2 ^ 29
+far_bound next size small far = let far_is = leb-true (2 ^ 46 + 1) (next + size + 2 ^ 29) far in omega (arith, small, far_is)
+
+-- ---- refusals before the first write
+
+memory_alone : (e : DbError) → is_room_error e ≡ true → is_growth_error e ≡ false → e ≡ OutOfMemory
+memory_alone Absent h k = absurd cc
+memory_alone BlockSize h k = absurd cc
+memory_alone ShortFile h k = absurd cc
+memory_alone BadMagic h k = absurd cc
+memory_alone ByteSwapped h k = absurd cc
+memory_alone WrongOffset h k = absurd cc
+memory_alone BadHeader h k = absurd cc
+memory_alone (BadDirEntry i) h k = absurd cc
+memory_alone (BadBucket a) h k = absurd cc
+memory_alone (BadHashTable a) h k = absurd cc
+memory_alone (BadHashEntry a s) h k = absurd cc
+memory_alone (BadAvail a) h k = absurd cc
+memory_alone NeedRecovery h k = absurd cc
+memory_alone ReaderCant h k = absurd cc
+memory_alone ItemNotFound h k = absurd cc
+memory_alone CannotReplace h k = absurd cc
+memory_alone DirOverflow h k = absurd cc
+memory_alone TooLarge h k = absurd cc
+memory_alone FileFull h k = absurd cc
+memory_alone (Exists w) h k = absurd cc
+memory_alone InUse h k = absurd cc
+memory_alone NotNumsync h k = absurd cc
+memory_alone AlreadyAtomic h k = absurd cc
+memory_alone SameName h k = absurd cc
+memory_alone InEpoch h k = absurd cc
+memory_alone NotOpen h k = absurd cc
+memory_alone VaultFault h k = absurd cc
+memory_alone ClockFault h k = absurd cc
+memory_alone OutOfMemory h k = refl
+memory_alone (ClockStood o n) h k = absurd cc
+
+-- an error that isn't one of growth came before the first write
+pub room_early : (e : DbError) (A : Type 0) → is_room_error e ≡ true → (e ≡ OutOfMemory → A) → is_growth_error e ≡ false → A
+room_early e A room memory calm = memory (memory_alone e room calm)
+
+pub put_early : (e : DbError) (v : View) (A : Type 0) → (e ≡ VaultFault) ⊎ ((a : ℕ) × (e ≡ BadAvail a) × TellsNone v) → is_growth_error e ≡ false → A
+put_early e v A why calm = let loud = put_kind e v why in absurd (cc (loud, calm))
+
+-- whether it is broken says nothing else
+early_broken : (e : DbError) → is_growth_error e ≡ false → is_fault_of e ≡ false
+early_broken Absent h = refl
+early_broken BlockSize h = refl
+early_broken ShortFile h = refl
+early_broken BadMagic h = refl
+early_broken ByteSwapped h = refl
+early_broken WrongOffset h = refl
+early_broken BadHeader h = refl
+early_broken (BadDirEntry i) h = refl
+early_broken (BadBucket a) h = refl
+early_broken (BadHashTable a) h = refl
+early_broken (BadHashEntry a s) h = refl
+early_broken (BadAvail a) h = refl
+early_broken NeedRecovery h = refl
+early_broken ReaderCant h = refl
+early_broken ItemNotFound h = refl
+early_broken CannotReplace h = refl
+early_broken DirOverflow h = refl
+early_broken TooLarge h = refl
+early_broken FileFull h = refl
+early_broken (Exists w) h = refl
+early_broken InUse h = refl
+early_broken NotNumsync h = refl
+early_broken AlreadyAtomic h = refl
+early_broken SameName h = refl
+early_broken InEpoch h = refl
+early_broken NotOpen h = refl
+early_broken VaultFault h = absurd cc
+early_broken ClockFault h = refl
+early_broken OutOfMemory h = refl
+early_broken (ClockStood o n) h = refl
+
+pub early_as : {T : Type 0} (r : Result T DbError) (u w : View) (s s1 t : Opened) (b : Bool) → t ≡ s1 → b ≡ is_fault r → s.broken ≡ false
+    → IfErr r (λ e. is_growth_error e ≡ false → (s1 ≡ s) × OnlyAsks u w) → IfErr r (λ e. is_growth_error e ≡ false → SameButCached s (record t { broken = b }) × OnlyAsks u w)
+early_as (Ok x) u w s s1 t b same is whole early = tt
+early_as (Err e) u w s s1 t b same is whole early = λ calm.
+    let h = early calm in
+    let now : b ≡ s.broken = is ∙ early_broken e calm ∙ sym whole in
+    (same_cached s (record t { broken = b }) (ap (λ (x : Opened). record x { broken = b }) (same ∙ h.0) ∙ ap (λ (y : Bool). record s { broken = y }) now), h.1)
+
+-- the same but for whether it is broken, in words of what is shown
+pub kept_cached : {T : Type 0} (r : Result T DbError) (u w : View) (s t : Opened) → IfErr r (λ e. e ≢ VaultFault → IsAt u (λ _. (t ≡ s) × OnlyAsks u w)) → IfErr r (λ e. e ≢ VaultFault → IsAt u (λ _. SameButCached s t × OnlyAsks u w))
+kept_cached (Ok x) u w s t kept = tt
+kept_cached (Err e) u w s t kept = λ other k told. let h = kept other k told in (same_cached s t h.0, h.1)
+
+pub kept_now : {T : Type 0} (r : Result T DbError) (u w : View) (s s1 t : Opened) (b : Bool) → t ≡ s1 → b ≡ is_fault r → s.broken ≡ false
+    → IfErr r (λ e. e ≢ VaultFault → (s1 ≡ s) × OnlyAsks u w) → IfErr r (λ e. e ≢ VaultFault → SameButCached s (record t { broken = b }) × OnlyAsks u w)
+kept_now (Ok x) u w s s1 t b same is whole kept = tt
+kept_now (Err e) u w s s1 t b same is whole kept = λ other.
+    let h = kept other in
+    let calm : is_fault_of e ≡ false = bool_cases (is_fault_of e) (λ loud. absurd (other (fault_is e loud))) (λ f. f) in
+    let now : b ≡ s.broken = is ∙ calm ∙ sym whole in
+    (same_cached s (record t { broken = b }) (ap (λ (x : Opened). record x { broken = b }) (same ∙ h.0) ∙ ap (λ (y : Bool). record s { broken = y }) now), h.1)
+
+-- it is broken afterwards where it was, or where the answer is a fault
+pub breaks_as : (b old loud : Bool) → old ≡ false → b ≡ loud → b ≡ (old || loud)
+breaks_as b old loud whole is = rw whole is
+
+pub breaks_not : (old : Bool) → old ≡ (old || false)
+breaks_not true = refl
+breaks_not false = refl
+
+-- the header after a put, and after room was made before it
+pub wider_put : (h h1 h2 : Header) → IsWider h h1 → h2 ≡ record h1 { next_block = h2.next_block } → IsWider h h2
+wider_put h h1 h2 one two =
+    let dir : h1.dir ≡ h2.dir = sym (ap (λ (k : Header). k.dir) two) in
+    let bits : h1.dir_bits ≡ h2.dir_bits = sym (ap (λ (k : Header). k.dir_bits) two) in
+    two
+    ∙ ap (λ (k : Header). record k { next_block = h2.next_block }) one
+    ∙ ap (λ (d : ℕ). record h { dir = d; dir_bits = h1.dir_bits; next_block = h2.next_block }) dir
+    ∙ ap (λ (b : ℕ). record h { dir = h2.dir; dir_bits = b; next_block = h2.next_block }) bits
+
+pub wider_end : (h h' : Header) → h' ≡ record h { next_block = h'.next_block } → IsWider h h'
+wider_end h h' is = wider_put h h h' refl is

@@ -1,13 +1,12 @@
 -- The file in which a database is made: its mode and its stamp.
-use Rattle.std.proofs.Common.{◌≡◌, ◌⊎◌, inl, inr, ℕ, Bool, true, List, [], ◌∷◌, Option, Some, None, Result, Ok, refl, sym, ap, subst, ◌∙◌}
+use Rattle.std.proofs.Common.{◌≡◌, inl, inr, ℕ, Bool, true, List, [], Option, Some, None, Result, Ok, refl, sym, ap, subst, ◌∙◌}
 use Rattle.std.specs.Option.{option_and_then}
 use Rattle.std.specs.Prelude.{option_map, is_ok, IfSome}
 use Rattle.gd_vault.specs.declared.vaults.FileId.{FileId}
-use Rattle.gd_vault.specs.declared.vaults.CreateError.{CreateError}
 use Rattle.gd_vault.specs.declared.vaults.Mode.TheVariants.{Both}
 use Rattle.gd_vault.specs.Content.{File, Content}
 use Rattle.gd_vault.specs.Effects.{Names, Makes, empty_file}
-use Rattle.gd_vault.specs.Events.{Event, content_after}
+use Rattle.gd_vault.specs.Events.{content_after}
 use Rattle.gd_vault.specs.Events.Call.{Create, Truncate}
 use Rattle.gd_vault.specs.Frame.{Within}
 use Rattle.gd_vault.specs.Views.{View, Told, HasFile, Asked, content_of}

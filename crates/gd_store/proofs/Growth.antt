@@ -1,5 +1,5 @@
 -- A new pair that finds its room in the file does not make it grow.
-use Rattle.std.proofs.Common.{◌≡◌, ℕ, ◌+◌, ◌≤◌, true, List, [], ◌∷◌, ◌++◌, Option, Some, None, refl, sym, ap, subst, ◌∙◌, arith}
+use Rattle.std.proofs.Common.{◌≡◌, ℕ, ◌+◌, ◌*◌, ◌≤◌, true, List, [], ◌∷◌, ◌++◌, Option, Some, None, refl, sym, ap, subst, ◌∙◌, arith}
 use Rattle.std.specs.Prelude.{is_some, max, nat_le}
 use Rattle.std.proofs.lemmas.Bool.{leb-true, le-leb}
 use Rattle.gd_format.specs.declared.Extent.{Extent}
@@ -8,13 +8,13 @@ use Rattle.gd_format.specs.Bucket.{Bucket, bucket_at}
 use Rattle.gd_format.specs.Field.{bytes_at}
 use Rattle.gd_format.specs.File.{block_of, entry_at, front_of}
 use Rattle.gd_format.specs.FreeSide.{StackBlock, block_extent}
-use Rattle.gd_format.specs.HeaderFault.{header_of, natural}
+use Rattle.gd_format.specs.HeaderFault.{dir_size_of, header_of, natural}
 use Rattle.gd_file_laws.proofs.Lists.{bool_cases}
 use Rattle.gd_map_laws.specs.Lookup.{index_of}
 use Rattle.gd_vault.specs.Content.{File}
 use Rattle.gd_vault.specs.Views.{View, OnlyAsks, content_of}
 use Rattle.gd_space.specs.Calls.{OnTable, growth_of}
-use Rattle.gd_space.specs.Effect.{is_taken_back, table_after}
+use Rattle.gd_space.specs.Effect.{WritesAtMost, is_taken_back, table_after}
 use Rattle.gd_space.specs.Sizes.{largest}
 use Rattle.gd_space.proofs.Elements.{largest-append}
 use Rattle.gd_change.specs.Calls.{Goes}
@@ -23,6 +23,7 @@ use Rattle.gd_change.proofs.Gone.{open_blocks}
 use Rattle.gd_split.proofs.Chains.{one_file}
 use Rattle.gd_store.specs.Changed.{FindsRoom, IsReady, has_slot, key_free}
 use Rattle.gd_store.specs.Opened.{Opened, OnFile}
+use Rattle.gd_store.proofs.Asking.{asks_more}
 use Rattle.gd_store.proofs.Rooms.{IsFound, none_of, place_tells}
 
 -- a block that is taken back leaves what the table had
@@ -65,3 +66,29 @@ module _ (u v w : View) (s t r q : Opened) (g : ℕ) (key : List ℕ) (hash at :
       let none_grown = no_growth n q.header (table_after q.header.avail_size q.table.extents blocks.0) bucket'.free (grind (arith, most, more, tables, frees)) in
       let nexts : q.header.next_block ≡ s.header.next_block = ap (λ (o : Opened). o.header.next_block) qs in
       omega (arith, e, none_grown, nexts)
+
+-- ---- what a store writes where no bucket is split
+
+pub asks_few : (u v : View) (f most : ℕ) (key : List ℕ) → OnlyAsks u v → OnFile u f (λ file. has_slot file key ≡ true → WritesAtMost most u v)
+asks_few u v f most key asks k x told there has = record { bytes = omega (arith, asks.bytes_written); clones = asks.clones }
+
+module _ (u v w : View) (s t r : Opened) (key : List ℕ) (asks : OnlyAsks u v) (same : t ≡ s) (few : OnFile v t.file (λ file. has_slot file key ≡ true → (r ≡ t) × OnlyAsks v w)) where
+  waits : OnFile u s.file (λ file. has_slot file key ≡ true → OnlyAsks u w)
+  waits k y told there has = asks_more u v w asks (few k y (ap content_of asks.told ∙ told) (ap k.files (ap (λ (o : Opened). o.file) same) ∙ there) has).1
+
+  pub few_none : (most : ℕ) → OnFile u s.file (λ file. has_slot file key ≡ true → WritesAtMost most u w)
+  few_none most k y told there has = asks_few u w s.file most key (waits k y told there has) k y told there has
+
+  pub few_put : (x : View) (n block : ℕ) → block ≡ s.header.block → WritesAtMost (n + 3 * block) w x → OnFile u s.file (λ file. has_slot file key ≡ true → WritesAtMost (n + 3 * s.header.block) u x)
+  few_put x n block at put k y told there has =
+      let all = waits k y told there has in
+      subst (λ (b : ℕ). WritesAtMost (n + 3 * b) u x) at (record { bytes = omega (arith, all.bytes_written, put.bytes); clones = put.clones ∙ all.clones })
+
+-- what a store writes where one is split
+pub put_writes : (u v w x : View) (n block block' bits bits' : ℕ) → OnlyAsks u v → WritesAtMost (97 * block + 2 * dir_size_of bits) v w → WritesAtMost (n + 3 * block') w x → block' ≡ block → bits' ≡ bits → WritesAtMost (n + 100 * block + 4 * dir_size_of bits') u x
+put_writes u v w x n block block' bits bits' asks room put same_block same_bits =
+    let dirs : dir_size_of bits' ≡ dir_size_of bits = ap dir_size_of same_bits in
+    record { bytes = omega (arith, asks.bytes_written, room.bytes, put.bytes, same_block, dirs); clones = put.clones ∙ room.clones ∙ asks.clones }
+
+pub room_writes : (u v w : View) (n block bits : ℕ) → OnlyAsks u v → WritesAtMost (100 * block + 4 * dir_size_of bits) v w → WritesAtMost (n + 100 * block + 4 * dir_size_of bits) u w
+room_writes u v w n block bits asks room = record { bytes = omega (arith, asks.bytes_written, room.bytes); clones = room.clones ∙ asks.clones }

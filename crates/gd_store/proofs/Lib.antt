@@ -4,6 +4,8 @@ pub mod Clearing
 pub mod Frames
 pub mod Growth
 pub mod Lookups
+pub mod Marks
 pub mod News
 pub mod OpenFacts
+pub mod Pairs
 pub mod Rooms

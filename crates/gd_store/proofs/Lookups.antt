@@ -1,5 +1,5 @@
 -- Facts of the look-up of a key.
-use Rattle.std.proofs.Common.{◌≡◌, ℕ, ◌-◌, ◌/◌, ◌^◌, Bool, true, false, List, Option, Some, None, Result, Ok, Err, refl, sym, ap, subst, ◌∙◌}
+use Rattle.std.proofs.Common.{◌≡◌, ℕ, ◌-◌, ◌/◌, ◌^◌, Bool, List, Option, Some, None, Result, Ok, Err, refl, sym, ap, subst, ◌∙◌}
 use Rattle.std.specs.Prelude.{get_or, is_some, length, IfOk, IfSome, IfNone, if◌then◌else◌}
 use Rattle.gd_base.specs.declared.errors.DbError.{DbError}
 use Rattle.gd_base.specs.declared.errors.DbError.TheVariants.{ItemNotFound}
@@ -12,10 +12,9 @@ use Rattle.gd_format.specs.HeaderFault.{natural}
 use Rattle.gd_format.specs.Bucket.{Bucket, bucket_at}
 use Rattle.gd_format.specs.File.{entry_at, records}
 use Rattle.gd_map_laws.specs.Lookup.{index_of}
-use Rattle.gd_vault.specs.Content.{File, Content}
-use Rattle.gd_vault.specs.Views.{View, OnlyAsks, content_of}
+use Rattle.gd_vault.specs.Views.{View, OnlyAsks}
 use Rattle.gd_lookup.specs.Finding.{IsKeyAbsent, IsKeyBucket, IsKeySlot, OfKey}
-use Rattle.gd_lookup.specs.Open.{AtFile, IsOpen, OfFile}
+use Rattle.gd_lookup.specs.Open.{AtFile, OfFile}
 use Rattle.gd_lookup.specs.Reading.{LiesIn, value_in}
 use Rattle.gd_lookup.proofs.Keys.{key_bucket}
 use Rattle.gd_lookup.proofs.Opens.{at_file_stays, at_file_was, of_file_stays}

@@ -1,25 +1,25 @@
 -- Facts of a database that is made.
-use Rattle.std.proofs.Common.{◌≡◌, ℕ, Bool, true, List, [], length, ◌≤◌, Option, Some, None, refl, sym, ap, subst, ◌∙◌, arith}
+use Rattle.std.proofs.Common.{◌≡◌, ℕ, true, List, [], length, ◌≤◌, refl, sym, ap, subst, ◌∙◌, arith}
 use Rattle.gd_base.specs.declared.errors.Format.{Format}
 use Rattle.gd_base.specs.declared.errors.Format.TheVariants.{Standard, Numsync}
 use Rattle.gd_format.specs.declared.Header.{Header}
-use Rattle.gd_format.specs.Avail.{Avail, avail_at}
+use Rattle.gd_format.specs.Avail.{Avail}
 use Rattle.gd_format.specs.File.{front_of, records}
 use Rattle.gd_format.specs.HeaderFault.{header_of, is_native}
 use Rattle.gd_format.specs.Headers.{IsHeader}
-use Rattle.gd_format.specs.Sound.{IsSound, most_of, table_of}
+use Rattle.gd_format.specs.Sound.{most_of}
 use Rattle.gd_layout.specs.Fits.{FitsHeader}
-use Rattle.gd_vault.specs.Content.{File, Content}
+use Rattle.gd_vault.specs.Content.{File}
 use Rattle.gd_vault.specs.Frame.{Within}
-use Rattle.gd_vault.specs.Views.{View, HasFile, content_of}
-use Rattle.gd_create.specs.NewFile.{IsNewHeader, IsNewBlock, new_file, new_header}
+use Rattle.gd_vault.specs.Views.{View, HasFile}
+use Rattle.gd_create.specs.NewFile.{IsNewHeader, new_file, new_header}
 use Rattle.gd_create.specs.Laws.{IsNew}
 use Rattle.gd_create.specs.Stands.{Stands}
 use Rattle.gd_create.proofs.News.{is_new}
 use Rattle.gd_create.proofs.Powers.{fits, is_header}
 use Rattle.gd_change.proofs.Files.{told_before, same_file}
 use Rattle.gd_store.specs.declared.access.Access.TheVariants.{Writer}
-use Rattle.gd_store.specs.Opened.{Opened, OnFile, IsRightFor}
+use Rattle.gd_store.specs.Opened.{OnFile, IsRightFor}
 
 pub new_is_header : (h : Header) → IsNewHeader h → IsHeader h
 new_is_header h n = subst IsHeader (sym n.fields) (is_header h.format h.block h.dir_bits n.sizes)

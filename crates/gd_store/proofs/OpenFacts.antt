@@ -1,22 +1,23 @@
 -- Facts of opening a database.
-use Rattle.std.proofs.Common.{◌≡◌, ◌≢◌, ◌⊎◌, ⊎_elim, ℕ, ◌<◌, Bool, true, false, List, [], length, Option, Some, None, Result, Ok, Err, refl, sym, ap, subst, ◌∙◌, arith}
+use Rattle.std.proofs.Common.{◌≡◌, ◌≢◌, ◌⊎◌, ⊎_elim, ℕ, ◌<◌, true, false, List, length, Some, None, Result, Ok, Err, refl, sym, ap, subst, ◌∙◌, arith}
 use Rattle.std.specs.Prelude.{IfOk, IfErr}
 use Rattle.gd_base.specs.Causes.{Rose}
 use Rattle.gd_base.specs.declared.errors.DbError.{DbError}
-use Rattle.gd_readable.specs.Asks.{Refuses}
+use Rattle.gd_base.specs.declared.errors.DbError.TheVariants.{Absent, VaultFault}
+use Rattle.gd_readable.specs.Asks.{IsAnswer, Refuses}
+use Rattle.gd_readable.proofs.Refusals.{refuses_map}
 use Rattle.gd_format.specs.declared.Header.{Header}
 use Rattle.gd_format.specs.Avail.{Avail, avail_at, is_avail}
 use Rattle.gd_format.specs.File.{file_fault, front_of}
 use Rattle.gd_format.specs.HeaderFault.{header_of}
 use Rattle.gd_format.specs.Sound.{IsSound, sound_fault, most_of, table_of}
-use Rattle.gd_map_laws.proofs.Sounds.{sound_blocks}
 use Rattle.gd_file_laws.proofs.Headers.{header_in}
 use Rattle.gd_file_laws.proofs.Points.{sound_parts}
-use Rattle.gd_vault.specs.Content.{File, Content}
-use Rattle.gd_vault.specs.Views.{View, IsAt, content_of}
+use Rattle.gd_vault.specs.Content.{File}
+use Rattle.gd_vault.specs.Views.{Read, Told, View, Asked, IsAt}
 use Rattle.gd_store.specs.declared.access.Access.{Access}
 use Rattle.gd_store.specs.declared.access.Access.TheVariants.{Reader, Writer}
-use Rattle.gd_store.specs.Opened.{OnFile, IsRightFor, fault_for}
+use Rattle.gd_store.specs.Opened.{OnFile, IsRightFor, fault_for, is_for, is_of_opening}
 
 abbrev Right : View → ℕ → Access → Header → Type 0
 Right v f access h = OnFile v f (λ file. (fault_for access file ≡ None) × (h ≡ header_of (front_of file)))
@@ -50,3 +51,35 @@ refused_for r u v f h access is refused = subst (λ (a : Access). Refused r u v 
 pub right_for : (access : Access) (h : Header) (table : Avail) (file : List ℕ) → fault_for access file ≡ None → (access ≡ Writer → table ≡ avail_at (table_of file h) (most_of h)) → IsRightFor access h table file
 right_for Reader h table file none t = none
 right_for Writer h table file none t = (none, t refl)
+
+-- ---- which errors may come, and what they leave
+
+pub kind_for : {T : Type 0} (r : Result T DbError) (access a : Access) → access ≡ a → IfErr r (λ e. IsAnswer (is_for a) e) → IfErr r (λ e. IsAnswer (is_for access) e)
+kind_for r access a is kind = subst (λ (b : Access). IfErr r (λ e. IsAnswer (is_for b) e)) (sym is) kind
+
+opening_kind : (access : Access) (e : DbError) → is_for access e ≡ true → is_of_opening access e ≡ true
+opening_kind access Absent kind = refl
+opening_kind access e kind = kind
+
+pub opening_answer : (access : Access) (e : DbError) → IsAnswer (is_for access) e → IsAnswer (is_of_opening access) e
+opening_answer access e h = refuses_map e _ _ _ _ (λ x. x) (opening_kind access e) h
+
+pub named_answer : (access : Access) (e : DbError) → (e ≡ VaultFault) ⊎ (e ≡ Absent) → IsAnswer (is_of_opening access) e
+named_answer access e h = ⊎_elim (λ (is : e ≡ VaultFault). rw is tt) (λ (is : e ≡ Absent). rw is refl) h
+
+absent_for : (access : Access) → is_for access Absent ≡ true → ⊥
+absent_for Reader h = absurd cc
+absent_for Writer h = absurd cc
+
+-- no check of a file answers Absent
+pub not_absent : (access : Access) (e : DbError) → IsAnswer (is_for access) e → e ≢ Absent
+not_absent access e h is = absent_for access (subst (λ (d : DbError). IsAnswer (is_for access) d) is h)
+
+-- a call that asks, reads nothing and is answered leaves all that is seen
+pub asked_same : {T E : Type 0} (x : T) (u v : View) → Asked {T = T} {E = E} (Ok x) u v → v ≡ u
+asked_same x u v a =
+    ap (λ (t : Told). record v { told = t }) a.told
+    ∙ ap (λ (n : ℕ). record v { told = u.told; faults = n }) a.cause.answered
+    ∙ ap (λ (n : ℕ). record v { told = u.told; faults = u.faults; bytes_written = n }) a.bytes_written
+    ∙ ap (λ (n : ℕ). record v { told = u.told; faults = u.faults; bytes_written = u.bytes_written; clones = n }) a.clones
+    ∙ ap (λ (rs : List Read). record u { reads = rs }) a.reads

@@ -5,7 +5,6 @@ use Rattle.std.specs.FinMap.{get, insert}
 use Rattle.std.proofs.lemmas.Bool.{leb-true, le-leb, lt-leb}
 use Rattle.std.proofs.lemmas.Bool.Decides.{Decides-eqb}
 use Rattle.std.proofs.lemmas.Nat.{mod_below, pow_pos}
-use Rattle.gd_base.specs.Causes.{Rose}
 use Rattle.gd_base.specs.declared.errors.DbError.{DbError}
 use Rattle.gd_base.specs.declared.errors.DbError.TheVariants.{CannotReplace, DirOverflow, FileFull}
 use Rattle.gd_format.specs.declared.Header.{Header}
@@ -34,8 +33,6 @@ use Rattle.gd_lookup.proofs.Blocks.{open_header, entry_is}
 use Rattle.gd_vault.specs.Content.{File}
 use Rattle.gd_vault.specs.Frame.{Within}
 use Rattle.gd_vault.specs.Views.{View, HasFile, IsAt, OnlyAsks, content_of}
-use Rattle.gd_readable.specs.Asks.{is_of_file}
-use Rattle.gd_readable.proofs.Refusals.{refuses}
 use Rattle.gd_change.specs.Calls.{CanChange, Changes, Goes}
 use Rattle.gd_change.specs.Open as change
 use Rattle.gd_change.proofs.Gone.{open_value}
@@ -49,7 +46,7 @@ use Rattle.gd_store.specs.Changed.{IsReady, Becomes, has_slot, ready_loss, store
 use Rattle.gd_store.specs.Located as located
 use Rattle.gd_store.specs.Located.{IsFoundIn}
 use Rattle.gd_store.specs.Opened.{Opened, IsOpenOn, Fits, OnFile}
-use Rattle.gd_store.specs.Replies.{far_due, is_of_changing, is_too_far, key_due, overflows, pair_due, value_of, RefusedChanging}
+use Rattle.gd_store.specs.Replies.{far_due, is_too_far, key_due, overflows, pair_due, value_of, RefusedStoring}
 use Rattle.gd_store.proofs.Changing.{changed, goes_there, is_here, may_change, near_due, slot_key_is, told_before, too_far_due}
 
 -- ---- what stands against a store
@@ -75,13 +72,13 @@ none_tells : (file key : List ℕ) (bucket : Bucket) (p : Option ℕ) → locate
 none_tells file key bucket (Some p) is e = absurd cc
 none_tells file key bucket None is e = is.value
 
-due_kind : (how : How) (a : Option ℕ) (x : Bool) (e : DbError) → key_due how a x ≡ Some e → (is_of_changing e ≡ true) × (is_of_file e ≡ true)
-due_kind Insert (Some p) x e is = let same : CannotReplace ≡ e = cc in rw (← same) (refl, refl)
-due_kind Replace (Some p) x e is = absurd cc
-due_kind Insert None true e is = let same : DirOverflow ≡ e = cc in rw (← same) (refl, refl)
-due_kind Insert None false e is = absurd cc
-due_kind Replace None true e is = let same : DirOverflow ≡ e = cc in rw (← same) (refl, refl)
-due_kind Replace None false e is = absurd cc
+due_refused : (how : How) (a : Option ℕ) (x : Bool) (e : DbError) (f : ℕ) (u w : View) (due : List ℕ → Option DbError) → key_due how a x ≡ Some e → OnFile u f (λ file. due file ≡ Some e) → RefusedStoring e f u w due
+due_refused Insert (Some p) x e f u w due is told = let same : CannotReplace ≡ e = cc in subst (λ (d : DbError). RefusedStoring d f u w due) same (record { kind = refl; cause = λ k y at there. told k y at there ∙ ap Some (sym same) })
+due_refused Replace (Some p) x e f u w due is told = absurd cc
+due_refused Insert None true e f u w due is told = let same : DirOverflow ≡ e = cc in subst (λ (d : DbError). RefusedStoring d f u w due) same (record { kind = refl; cause = λ k y at there. told k y at there ∙ ap Some (sym same) })
+due_refused Insert None false e f u w due is told = absurd cc
+due_refused Replace None true e f u w due is told = let same : DirOverflow ≡ e = cc in subst (λ (d : DbError). RefusedStoring d f u w due) same (record { kind = refl; cause = λ k y at there. told k y at there ∙ ap Some (sym same) })
+due_refused Replace None false e f u w due is told = absurd cc
 
 pub none_of : {A : Type 0} (o : Option A) → is_some o ≡ false → o ≡ None
 none_of None e = refl
@@ -267,13 +264,11 @@ module _ (u : View) (s : Opened) (key : List ℕ) (hash at : ℕ) (bucket : Buck
   none_due_told how next value is near k x told there = sym (due_told how next value k x told there) ∙ ap (λ (d : Option DbError). or_else d (far_due next (length key + length value))) is ∙ near_due next (length key + length value) near
 
   pub key_refusal_told : (w : View) (how : How) (next : ℕ) (value : List ℕ) (e : DbError) → key_due how p (count (is_close hash) bucket.slots == length bucket.slots) ≡ Some e
-      → RefusedChanging e s.file u w (λ file. pair_due (records file) s.header.elems next how key value)
-  key_refusal_told w how next value e is =
-      let kind = due_kind how p (count (is_close hash) bucket.slots == length bucket.slots) e is in
-      record { kind = kind.0; cause = refuses e (Rose u.faults w.faults) (OnFile u s.file (λ file. pair_due (records file) s.header.elems next how key value ≡ Some e)) kind.1 (key_refused how next value e is) }
+      → RefusedStoring e s.file u w (λ file. pair_due (records file) s.header.elems next how key value)
+  key_refusal_told w how next value e is = due_refused how p (count (is_close hash) bucket.slots == length bucket.slots) e s.file u w (λ file. pair_due (records file) s.header.elems next how key value) is (key_refused how next value e is)
 
   pub far_refusal_told : (w : View) (how : How) (next : ℕ) (value : List ℕ) → key_due how p (count (is_close hash) bucket.slots == length bucket.slots) ≡ None → is_too_far next (length key + length value) ≡ true
-      → RefusedChanging FileFull s.file u w (λ file. pair_due (records file) s.header.elems next how key value)
+      → RefusedStoring FileFull s.file u w (λ file. pair_due (records file) s.header.elems next how key value)
   far_refusal_told w how next value is far = record { kind = refl; cause = far_refused how next value is far }
 
 -- ---- over calls that ask

@@ -7,6 +7,7 @@ use Rattle.gd_format.specs.Avail.{Avail}
 use Rattle.gd_format.specs.Bucket.{Bucket, bucket_at}
 use Rattle.gd_format.specs.declared.Extent.{Extent}
 use Rattle.gd_change.specs.Open as change
+use Rattle.gd_grow.specs.Growth.{IsWider}
 use Rattle.gd_grow.specs.Refusals.{is_growth_error}
 use Rattle.gd_format.specs.File.{block_of, records}
 use Rattle.gd_format.specs.Sound.{lost_total}
@@ -73,9 +74,10 @@ abbrev pub is_room_error : DbError → Bool
 is_room_error OutOfMemory = true
 is_room_error e = is_growth_error e
 
--- what a change leaves of an open database: all but its header's end of space, its table, and whether it is broken
+-- what a change leaves of an open database: of its header all but the place and the size of the directory and the end of
+-- space, and all else but its table, what is cached, and whether it is broken
 pub record Keeps (s s' : Opened) : Type 0 where
   pub file : s'.file ≡ s.file
   pub access : s'.access ≡ s.access
   pub cache : s'.cache ≡ s.cache
-  pub block : s'.header.block ≡ s.header.block
+  pub header : IsWider s.header s'.header

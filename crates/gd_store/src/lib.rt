@@ -7,6 +7,7 @@
 
 mod access;
 mod deleting;
+mod laws;
 mod locating;
 mod opening;
 mod reading;
@@ -14,4 +15,5 @@ mod store;
 mod storing;
 
 pub use crate::access::{Access, How};
+pub use crate::laws::{fits_stays, keys_are_of_pairs};
 pub use crate::store::Store;

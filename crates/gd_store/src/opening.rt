@@ -1,6 +1,6 @@
 //! Opening a database, and closing it.
 
-ghost use Rattle.std.specs.Prelude.{◌≡◌, ◌≢◌, ◌⊎◌, ◌≤◌, true, false, [], None, Some, IfOk, IfErr, OnOk, OnErr, length};
+ghost use Rattle.std.specs.Prelude.{◌≡◌, ◌≢◌, ◌⊎◌, ◌≤◌, true, false, [], None, Some, Ok, IfOk, IfErr, OnOk, OnErr, length};
 ghost use Rattle.gd_base.specs.Causes.{Rose};
 ghost use Rattle.gd_format.specs.Avail.{avail_at};
 ghost use Rattle.gd_create.specs.NewFile.{IsNewHeader, new_file};
@@ -14,9 +14,10 @@ ghost use Rattle.gd_vault.specs.Content.{File};
 ghost use Rattle.gd_vault.specs.Changes.{Changed};
 ghost use Rattle.gd_vault.specs.Events.Call.{Sync};
 ghost use Rattle.gd_vault.specs.Frame.{Within, OneFile, NoName};
+ghost use Rattle.gd_vault.specs.Streams.{OnlyWrites};
 ghost use Rattle.gd_vault.specs.Views.{HasFile, IsAt, OnlyAsks, content_of};
-ghost use Rattle.gd_readable.specs.Asks.{Refuses};
-ghost use Rattle.gd_store.specs.Opened.{Fits, IsAsked, IsCleared, IsNamed, OnFile, OpenedAs, StandsFor, fault_for, open_due};
+ghost use Rattle.gd_readable.specs.Asks.{Counts, IsAnswer, Refuses};
+ghost use Rattle.gd_store.specs.Opened.{Fits, IsAsked, IsCleared, IsOwn, MarksStay, NamesOwn, OnFile, OpenedAs, StandsFor, fault_for, is_for, is_of_opening, open_due};
 
 use crate::access::Access;
 use crate::store::Store;
@@ -30,6 +31,7 @@ use gd_verify::sound;
 use std::alloc::Global;
 
 // The file for which a name stands.
+#[tactic(auto, using(crate::proofs::OpenFacts::asked_same))]
 fn named_file<V: Vault>(vault: &mut V, name: &Name) -> Result<FileId, DbError>
     ensures asks { OnlyAsks (V.view_of vault.old) (V.view_of vault.new) }
     ensures named { IfOk result (λ f. StandsFor (V.view_of vault.old) name.now f.0) }
@@ -37,6 +39,9 @@ fn named_file<V: Vault>(vault: &mut V, name: &Name) -> Result<FileId, DbError>
     ensures error { IfErr result (λ e. (e ≡ DbError.VaultFault) ⊎ (e ≡ DbError.Absent)) }
     ensures fault { IfErr result (λ e. e ≡ DbError.VaultFault → Rose (V.view_of vault.old).faults (V.view_of vault.new).faults) }
     ensures absent { IfErr result (λ e. e ≡ DbError.Absent → IsAt (V.view_of vault.old) (λ c. c.names name.now ≡ None)) }
+    ensures unread { IfErr result (λ e. e ≡ DbError.Absent → V.view_of vault.new ≡ V.view_of vault.old) }
+    ensures answered { OnOk result ((V.view_of vault.new).faults ≡ (V.view_of vault.old).faults) }
+    ensures counted { IfErr result (λ e. Counts e (V.view_of vault.old).faults (V.view_of vault.new).faults) }
 {
     match vault.lookup(name) {
         Ok(Some(f)) => Ok(f),
@@ -59,6 +64,9 @@ fn checked<V: Vault>(
     ensures native { IfOk result (λ h. is_native h.magic ≡ true) }
     ensures right { IfOk result (λ h. OnFile (V.view_of vault.old) f.0 (λ file. (fault_for access file ≡ None) × (h ≡ header_of (front_of file)))) }
     ensures refused { IfErr result (λ e. Refuses e (Rose (V.view_of vault.old).faults (V.view_of vault.new).faults) (OnFile (V.view_of vault.old) f.0 (λ file. fault_for access file ≡ Some e))) }
+    ensures kind { IfErr result (λ e. IsAnswer (is_for access) e) }
+    ensures answered { OnOk result ((V.view_of vault.new).faults ≡ (V.view_of vault.old).faults) }
+    ensures counted { IfErr result (λ e. Counts e (V.view_of vault.old).faults (V.view_of vault.new).faults) }
 {
     match access {
         Access::Reader => readable(alloc, vault, f),
@@ -81,6 +89,7 @@ fn loaded<V: Vault>(
     ensures fits { IfOk result (λ s. length s.table.extents ≤ header.now.avail_size) }
     ensures table { IfOk result (λ s. IsAt (V.view_of vault.old) (λ c. (x : File) → c.files f.0 ≡ Some x → s.table ≡ avail_at (table_of x.bytes header.now) (most_of header.now))) }
     ensures refused { IfErr result (λ e. Refuses e (Rose (V.view_of vault.old).faults (V.view_of vault.new).faults) (OnFile (V.view_of vault.old) f.0 (λ file. header.now ≡ header_of (front_of file) → fault_for Access.Writer file ≢ None))) }
+    ensures kind { IfErr result (λ e. IsAnswer (is_for Access.Writer) e) }
 {
     match Space::load(alloc, vault, f, header) {
         Ok(space) => Ok(space),
@@ -107,6 +116,9 @@ fn space_of<V: Vault>(
     ensures fits { IfOk result (λ s. length s.table.extents ≤ header.now.avail_size) }
     ensures table { access ≡ Access.Writer → IfOk result (λ s. IsAt (V.view_of vault.old) (λ c. (x : File) → c.files f.0 ≡ Some x → s.table ≡ avail_at (table_of x.bytes header.now) (most_of header.now))) }
     ensures refused { IfErr result (λ e. Refuses e (Rose (V.view_of vault.old).faults (V.view_of vault.new).faults) (OnFile (V.view_of vault.old) f.0 (λ file. header.now ≡ header_of (front_of file) → fault_for access file ≢ None))) }
+    ensures kind { IfErr result (λ e. IsAnswer (is_for access) e) }
+    ensures reader { access ≡ Access.Reader → V.view_of vault.new ≡ V.view_of vault.old }
+    ensures memory { access ≡ Access.Reader → IfErr result (λ e. e ≡ DbError.OutOfMemory) }
 {
     match access {
         Access::Reader => match Space::empty(alloc, header) {
@@ -123,11 +135,13 @@ fn emptied<V: Vault>(vault: &mut V, name: &Name) -> Result<FileId, DbError>
     ensures empty { IfOk result (λ f. OnFile (V.view_of vault.new) f.0 (λ file. file ≡ [])) }
     ensures cleared { IfOk result (λ f. IsCleared (V.view_of vault.old) (V.view_of vault.new) name.now f.0 []) }
     ensures there { IfOk result (λ f. HasFile (V.view_of vault.new) f.0) }
-    ensures own { IfOk result (λ f. IsNamed (V.view_of vault.old) name.now f.0) }
+    ensures own { IfOk result (λ f. IsOwn (V.view_of vault.old) name.now f.0) }
+    ensures name { NamesOwn (V.view_of vault.old) (V.view_of vault.new) name.now }
+    ensures marks { MarksStay (V.view_of vault.old) (V.view_of vault.new) name.now }
     ensures error { IfErr result (λ e. (e ≡ DbError.VaultFault) ⊎ ((e ≡ DbError.Exists Which.Only) × (content_of (V.view_of vault.old).told ≡ None))) }
     ensures fault { IfErr result (λ e. e ≡ DbError.VaultFault → Rose (V.view_of vault.old).faults (V.view_of vault.new).faults) }
     ensures bytes_written { (V.view_of vault.new).bytes_written ≡ (V.view_of vault.old).bytes_written }
-    ensures frame { Within (IsNamed (V.view_of vault.old) name.now) (λ n. n ≡ name.now) (V.view_of vault.old) (V.view_of vault.new) }
+    ensures frame { Within (StandsFor (V.view_of vault.old) name.now) (λ n. n ≡ name.now) (V.view_of vault.old) (V.view_of vault.new) }
 {
     match vault.lookup(name) {
         Ok(Some(f)) => match vault.truncate(f) {
@@ -165,10 +179,15 @@ impl Store {
         ensures there { IfOk result (λ s. HasFile (V.view_of vault.new) s.file) }
         ensures fits { IfOk result (λ s. Fits (V.view_of vault.new) s) }
         ensures sizes { IfOk result (λ s. IsAsked size format s.header) }
+        ensures header { IfOk result (λ s. IsNewHeader s.header) }
+        ensures own { IfOk result (λ s. IsOwn (V.view_of vault.old) name.now s.file) }
+        ensures name { NamesOwn (V.view_of vault.old) (V.view_of vault.new) name.now }
+        ensures marks { MarksStay (V.view_of vault.old) (V.view_of vault.new) name.now }
         ensures bytes { IfOk result (λ s. OnFile (V.view_of vault.new) s.file (λ file. (file ≡ new_file format s.header.block s.header.dir_bits) × (records file ≡ []))) }
         ensures cleared { IfOk result (λ s. IsCleared (V.view_of vault.old) (V.view_of vault.new) name.now s.file (new_file format s.header.block s.header.dir_bits)) }
         ensures refused { IfErr result (λ e. Refuses e (Rose (V.view_of vault.old).faults (V.view_of vault.new).faults) ((e ≡ DbError.Exists Which.Only) × (content_of (V.view_of vault.old).told ≡ None))) }
-        ensures frame { Within (IsNamed (V.view_of vault.old) name.now) (λ n. n ≡ name.now) (V.view_of vault.old) (V.view_of vault.new) }
+        ensures memory { IfErr result (λ e. e ≡ DbError.OutOfMemory → OnlyAsks (V.view_of vault.old) (V.view_of vault.new)) }
+        ensures frame { Within (StandsFor (V.view_of vault.old) name.now) (λ n. n ≡ name.now) (V.view_of vault.old) (V.view_of vault.new) }
     {
         let header = new_header(block_for(size), format);
         let Some(space) = Space::empty(alloc, &header) else {
@@ -201,7 +220,7 @@ impl Store {
         ensures there { HasFile (V.view_of vault.new) self.old.file }
         ensures error { IfErr result (λ e. e ≡ DbError.VaultFault) }
         ensures fault { OnErr result (Rose (V.view_of vault.old).faults (V.view_of vault.new).faults) }
-        ensures frame { Within (OneFile self.old.file) NoName (V.view_of vault.old) (V.view_of vault.new) }
+        ensures frame { OnlyWrites self.old.file (V.view_of vault.old) (V.view_of vault.new) }
     {
         make_file(vault, self.file, &self.header, &mut self.block)
     }
@@ -209,7 +228,9 @@ impl Store {
     /// Opens the file for which a name stands, after checking all of it: one that is to be read has to be readable, and
     /// one that is to be written has to be sound.
     ///
-    /// The refusals are `Absent`, the first refusal of the file, `VaultFault` and `OutOfMemory`.
+    /// The refusals are `Absent`, before anything is read, the first refusal of the file, `VaultFault` and `OutOfMemory`,
+    /// and no others over any vault. Of a call that opens to read only `VaultFault` raises the count of faults.
+    #[tactic(auto, using(crate::proofs::OpenFacts::named_answer, crate::proofs::OpenFacts::opening_answer, crate::proofs::OpenFacts::not_absent, gd_readable::proofs::Refusals::counts_from))]
     pub fn open_file<V: Vault>(
         alloc: Global,
         vault: &mut V,
@@ -224,6 +245,10 @@ impl Store {
         ensures there { IfOk result (λ s. HasFile (V.view_of vault.new) s.file) }
         ensures fits { IfOk result (λ s. Fits (V.view_of vault.new) s) }
         ensures refused { IfErr result (λ e. Refuses e (Rose (V.view_of vault.old).faults (V.view_of vault.new).faults) (IsAt (V.view_of vault.old) (λ c. open_due c name.now access ≡ Some e))) }
+        ensures kind { IfErr result (λ e. IsAnswer (is_of_opening access) e) }
+        ensures absent { IfErr result (λ e. e ≡ DbError.Absent → V.view_of vault.new ≡ V.view_of vault.old) }
+        ensures answered { access ≡ Access.Reader → OnOk result ((V.view_of vault.new).faults ≡ (V.view_of vault.old).faults) }
+        ensures counted { access ≡ Access.Reader → IfErr result (λ e. Counts e (V.view_of vault.old).faults (V.view_of vault.new).faults) }
     {
         let file = named_file(vault, name)?;
         let header = checked(alloc, vault, file, access)?;
@@ -253,9 +278,10 @@ impl Store {
         ensures bytes_written { (V.view_of vault.new).bytes_written ≡ (V.view_of vault.old).bytes_written }
         ensures clones { (V.view_of vault.new).clones ≡ (V.view_of vault.old).clones }
         ensures error { IfErr result (λ e. (e ≡ DbError.VaultFault) × Rose (V.view_of vault.old).faults (V.view_of vault.new).faults) }
+        ensures answered { OnOk result ((V.view_of vault.new).faults ≡ (V.view_of vault.old).faults) }
         ensures synced { self.broken ≡ false → self.access ≡ Access.Writer → Changed (Sync self.file) result (V.view_of vault.old) (V.view_of vault.new) }
-        ensures reader { self.access ≡ Access.Reader → V.view_of vault.new ≡ V.view_of vault.old }
-        ensures broken { self.broken ≡ true → V.view_of vault.new ≡ V.view_of vault.old }
+        ensures reader { self.access ≡ Access.Reader → (result ≡ Ok tt) × (V.view_of vault.new ≡ V.view_of vault.old) }
+        ensures broken { self.broken ≡ true → (result ≡ Ok tt) × (V.view_of vault.new ≡ V.view_of vault.old) }
     {
         if self.broken || self.access == Access::Reader {
             return Ok(());

@@ -1,11 +1,12 @@
 //! Asking a database.
 
-ghost use Rattle.std.specs.Prelude.{◌≡◌, true, false, Some, Err, IfOk, IfErr, length, is_some};
+ghost use Rattle.std.specs.Prelude.{◌≡◌, true, false, Some, IfOk, IfErr, length, is_some};
 ghost use Rattle.gd_format.specs.File.{records};
 ghost use Rattle.gd_vault.specs.Views.{HasFile, OnlyAsks};
 ghost use Rattle.gd_lookup.specs.Order.{first_of, successor};
-ghost use Rattle.gd_store.specs.Opened.{Fits, OnFile};
-ghost use Rattle.gd_store.specs.Replies.{value_of, absent_due, first_due, next_due, none_due, RefusedAsking};
+ghost use Rattle.gd_lookup.specs.Reading.{RefusesRead};
+ghost use Rattle.gd_store.specs.Opened.{Fits, OnFile, SameButCached};
+ghost use Rattle.gd_store.specs.Replies.{value_of, absent_due, first_due, next_due, RefusedAsking, RefusedAtOnce};
 
 use crate::store::Store;
 use gd_base::{Datum, DbError};
@@ -14,13 +15,14 @@ use gd_vault::Vault;
 
 impl Store {
     /// The value of a key. `ItemNotFound` comes where the key is absent.
+    #[tactic(auto, using(crate::proofs::Asking::same_cached))]
     pub fn fetch<V: Vault>(&mut self, vault: &mut V, key: &[u8]) -> Result<Datum, DbError>
         requires file { HasFile (V.view_of vault.old) self.old.file }
         requires fits { Fits (V.view_of vault.old) self.old }
         ensures asks { OnlyAsks (V.view_of vault.old) (V.view_of vault.new) }
-        ensures same { self.new ≡ self.old }
+        ensures same { SameButCached self.old self.new }
         ensures value { IfOk result (λ v. OnFile (V.view_of vault.old) self.old.file (λ file. value_of (records file) key.now ≡ Some v)) }
-        ensures broken { self.old.broken ≡ true → result ≡ Err DbError.NeedRecovery }
+        ensures broken { self.old.broken ≡ true → RefusedAtOnce DbError.NeedRecovery result self.old self.new (V.view_of vault.old) (V.view_of vault.new) }
         ensures refused { self.old.broken ≡ false → IfErr result (λ e. RefusedAsking e self.old.file (V.view_of vault.old) (V.view_of vault.new) (λ file. absent_due (records file) key.now)) }
     {
         if self.broken {
@@ -35,14 +37,15 @@ impl Store {
     }
 
     /// Is a key there?
+    #[tactic(auto, using(crate::proofs::Asking::same_cached))]
     pub fn exists<V: Vault>(&mut self, vault: &mut V, key: &[u8]) -> Result<bool, DbError>
         requires file { HasFile (V.view_of vault.old) self.old.file }
         requires fits { Fits (V.view_of vault.old) self.old }
         ensures asks { OnlyAsks (V.view_of vault.old) (V.view_of vault.new) }
-        ensures same { self.new ≡ self.old }
+        ensures same { SameButCached self.old self.new }
         ensures answer { IfOk result (λ b. OnFile (V.view_of vault.old) self.old.file (λ file. b ≡ is_some (value_of (records file) key.now))) }
-        ensures broken { self.old.broken ≡ true → result ≡ Err DbError.NeedRecovery }
-        ensures refused { self.old.broken ≡ false → IfErr result (λ e. RefusedAsking e self.old.file (V.view_of vault.old) (V.view_of vault.new) none_due) }
+        ensures broken { self.old.broken ≡ true → RefusedAtOnce DbError.NeedRecovery result self.old self.new (V.view_of vault.old) (V.view_of vault.new) }
+        ensures refused { self.old.broken ≡ false → IfErr result (λ e. RefusesRead e (V.view_of vault.old) (V.view_of vault.new)) }
     {
         if self.broken {
             return Err(DbError::NeedRecovery);
@@ -52,13 +55,14 @@ impl Store {
     }
 
     /// The first key in file order. `ItemNotFound` comes where there is no record.
+    #[tactic(auto, using(crate::proofs::Asking::same_cached))]
     pub fn first<V: Vault>(&mut self, vault: &mut V) -> Result<Datum, DbError>
         requires file { HasFile (V.view_of vault.old) self.old.file }
         requires fits { Fits (V.view_of vault.old) self.old }
         ensures asks { OnlyAsks (V.view_of vault.old) (V.view_of vault.new) }
-        ensures same { self.new ≡ self.old }
+        ensures same { SameButCached self.old self.new }
         ensures first { IfOk result (λ k. OnFile (V.view_of vault.old) self.old.file (λ file. first_of (records file) ≡ Some k)) }
-        ensures broken { self.old.broken ≡ true → result ≡ Err DbError.NeedRecovery }
+        ensures broken { self.old.broken ≡ true → RefusedAtOnce DbError.NeedRecovery result self.old self.new (V.view_of vault.old) (V.view_of vault.new) }
         ensures refused { self.old.broken ≡ false → IfErr result (λ e. RefusedAsking e self.old.file (V.view_of vault.old) (V.view_of vault.new) (λ file. first_due (records file))) }
     {
         if self.broken {
@@ -72,13 +76,14 @@ impl Store {
     }
 
     /// The key after another one in file order. `ItemNotFound` comes where that is absent or the last one.
+    #[tactic(auto, using(crate::proofs::Asking::same_cached))]
     pub fn next<V: Vault>(&mut self, vault: &mut V, key: &[u8]) -> Result<Datum, DbError>
         requires file { HasFile (V.view_of vault.old) self.old.file }
         requires fits { Fits (V.view_of vault.old) self.old }
         ensures asks { OnlyAsks (V.view_of vault.old) (V.view_of vault.new) }
-        ensures same { self.new ≡ self.old }
+        ensures same { SameButCached self.old self.new }
         ensures next { IfOk result (λ k. OnFile (V.view_of vault.old) self.old.file (λ file. successor key.now (records file) ≡ Successor.Key k)) }
-        ensures broken { self.old.broken ≡ true → result ≡ Err DbError.NeedRecovery }
+        ensures broken { self.old.broken ≡ true → RefusedAtOnce DbError.NeedRecovery result self.old self.new (V.view_of vault.old) (V.view_of vault.new) }
         ensures refused { self.old.broken ≡ false → IfErr result (λ e. RefusedAsking e self.old.file (V.view_of vault.old) (V.view_of vault.new) (λ file. next_due key.now (records file))) }
     {
         if self.broken {
@@ -100,14 +105,15 @@ impl Store {
     }
 
     /// The number of records.
+    #[tactic(auto, using(crate::proofs::Asking::same_cached))]
     pub fn count<V: Vault>(&mut self, vault: &mut V) -> Result<u64, DbError>
         requires file { HasFile (V.view_of vault.old) self.old.file }
         requires fits { Fits (V.view_of vault.old) self.old }
         ensures asks { OnlyAsks (V.view_of vault.old) (V.view_of vault.new) }
-        ensures same { self.new ≡ self.old }
+        ensures same { SameButCached self.old self.new }
         ensures count { IfOk result (λ n. OnFile (V.view_of vault.old) self.old.file (λ file. n ≡ length (records file))) }
-        ensures broken { self.old.broken ≡ true → result ≡ Err DbError.NeedRecovery }
-        ensures refused { self.old.broken ≡ false → IfErr result (λ e. RefusedAsking e self.old.file (V.view_of vault.old) (V.view_of vault.new) none_due) }
+        ensures broken { self.old.broken ≡ true → RefusedAtOnce DbError.NeedRecovery result self.old self.new (V.view_of vault.old) (V.view_of vault.new) }
+        ensures refused { self.old.broken ≡ false → IfErr result (λ e. RefusesRead e (V.view_of vault.old) (V.view_of vault.new)) }
     {
         if self.broken {
             return Err(DbError::NeedRecovery);

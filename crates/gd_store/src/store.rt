@@ -1,6 +1,10 @@
 //! An open database.
 
 ghost use Rattle.std.specs.Prelude.{◌≡◌, ◌≤◌, ◌<◌, true};
+ghost use Rattle.gd_format.specs.HeaderFault.{is_native};
+ghost use Rattle.gd_format.specs.Headers.{IsHeader};
+ghost use Rattle.gd_layout.specs.Fits.{FitsHeader};
+ghost use Rattle.gd_store.specs.Opened.{SameButCached};
 
 use crate::access::Access;
 use gd_format::Header;
@@ -40,16 +44,20 @@ impl Model for Store {
 impl Store {
     /// The header of the file as the store knows it.
     pub fn header(&self) -> &Header
-        ensures { result.now ≡ self.now.header }
+        ensures is { result.now ≡ self.now.header }
+        ensures valid { IsHeader result.now }
+        ensures fits { FitsHeader result.now }
+        ensures native { is_native result.now.magic ≡ true }
     {
         &self.header
     }
 
     /// Sets how many buckets may be kept.
+    #[tactic(auto, using(crate::proofs::Asking::same_cached))]
     pub fn set_cache(&mut self, size: u32)
         requires least { 1 ≤ size }
         requires most { size ≤ 4096 }
-        ensures { self.new ≡ record self.old { cache = size } }
+        ensures { SameButCached (record self.old { cache = size }) self.new }
     {
         self.cache = size;
     }

@@ -1,6 +1,6 @@
 //! Storing in a database.
 
-ghost use Rattle.std.specs.Prelude.{◌≡◌, ◌≢◌, ◌+◌, ◌-◌, ◌*◌, ◌≤◌, ◌<◌, ◌^◌, ◌==◌, true, false, None, Some, Err, IfOk, IfErr, IfNone, IfSome, OnOk, length, slice_index_or};
+ghost use Rattle.std.specs.Prelude.{◌≡◌, ◌≢◌, ◌+◌, ◌-◌, ◌*◌, ◌≤◌, ◌<◌, ◌^◌, ◌==◌, ◌||◌, true, false, None, Some, IfOk, IfErr, IfNone, IfSome, OnOk, length, slice_index_or};
 ghost use Rattle.std.specs.FinMap.{insert};
 ghost use Rattle.gd_base.specs.Causes.{Rose};
 ghost use Rattle.gd_format.specs.File.{records};
@@ -10,7 +10,7 @@ ghost use Rattle.gd_format.specs.Slots.{count, is_full};
 ghost use Rattle.gd_map_laws.specs.Maps.{pair_map};
 ghost use Rattle.gd_map_laws.specs.Overflow.{is_close};
 ghost use Rattle.gd_vault.specs.Content.{File};
-ghost use Rattle.gd_vault.specs.Frame.{Within, OneFile, NoName};
+ghost use Rattle.gd_vault.specs.Streams.{OnlyWrites};
 ghost use Rattle.gd_vault.specs.Views.{HasFile, IsAt, OnlyAsks};
 ghost use Rattle.gd_space.specs.Effect.{WritesAtMost, TellsNone};
 ghost use Rattle.gd_change.specs.Calls.{Goes};
@@ -18,10 +18,11 @@ ghost use Rattle.gd_change.specs.Open.{IsOpen};
 ghost use Rattle.gd_split.specs.Held.{HasBucket};
 ghost use Rattle.gd_split.specs.Turns.{Turns};
 ghost use Rattle.gd_grow.specs.Growth.{IsRoomMade, IsWider};
+ghost use Rattle.gd_grow.specs.Refusals.{is_growth_error};
 ghost use Rattle.gd_store.specs.Changed.{Becomes, FindsRoom, IsReady, Keeps, has_slot, is_room_error, store_loss};
 ghost use Rattle.gd_store.specs.Located.{IsFoundIn};
-ghost use Rattle.gd_store.specs.Opened.{Fits, OnFile};
-ghost use Rattle.gd_store.specs.Replies.{is_fault, key_due, pair_due, store_due, RefusedChanging};
+ghost use Rattle.gd_store.specs.Opened.{Fits, OnFile, SameButCached};
+ghost use Rattle.gd_store.specs.Replies.{is_fault, key_due, pair_due, store_due, RefusedAtOnce, RefusedStoring, StoreCause, StoreFits};
 
 use crate::access::{Access, How};
 use crate::deleting::{is_fault, is_too_far};
@@ -89,7 +90,7 @@ fn refusal(located: &Located, how: How) -> Option<DbError>
 
 impl Store {
     // Splits the bucket of a key until it has an empty slot.
-    #[tactic(auto, using(gd_vault::proofs::Within::within))]
+    #[tactic(auto, using(gd_vault::proofs::Writes::writes))]
     fn split_full<V: Vault>(&mut self, vault: &mut V, located: &mut Located) -> Result<(), DbError>
         requires file { HasFile (V.view_of vault.old) self.old.file }
         requires hash { located.old.hash < 2 ^ 31 }
@@ -108,8 +109,9 @@ impl Store {
         ensures bound { self.new.header.next_block ≤ self.old.header.next_block + (2 ^ 29 - 2 ^ 25) }
         ensures growth { OnOk result (self.new.header.next_block + 2 * dir_size_of self.old.header.dir_bits ≤ self.old.header.next_block + 144 * self.old.header.block + 2 * dir_size_of self.new.header.dir_bits) }
         ensures there { HasFile (V.view_of vault.new) self.old.file }
-        ensures frame { Within (OneFile self.old.file) NoName (V.view_of vault.old) (V.view_of vault.new) }
-        ensures amount { WritesAtMost (150 * self.old.header.block + 2 ^ 30) (V.view_of vault.old) (V.view_of vault.new) }
+        ensures frame { OnlyWrites self.old.file (V.view_of vault.old) (V.view_of vault.new) }
+        ensures amount { WritesAtMost (100 * self.old.header.block + 4 * dir_size_of self.new.header.dir_bits) (V.view_of vault.old) (V.view_of vault.new) }
+        ensures little { OnOk result (WritesAtMost (97 * self.old.header.block + 2 * dir_size_of self.new.header.dir_bits) (V.view_of vault.old) (V.view_of vault.new)) }
         ensures kind { IfErr result (λ e. is_room_error e ≡ true) }
         ensures fault { IfErr result (λ e. e ≡ DbError.VaultFault → Rose (V.view_of vault.old).faults (V.view_of vault.new).faults) }
         ensures memory { IfErr result (λ e. e ≡ DbError.OutOfMemory → (self.new ≡ self.old) × OnlyAsks (V.view_of vault.old) (V.view_of vault.new)) }
@@ -138,7 +140,7 @@ impl Store {
     }
 
     // Splits the bucket of a key where the key has no slot and the bucket no empty one.
-    #[tactic(auto, using(gd_vault::proofs::Within::within))]
+    #[tactic(auto, using(gd_vault::proofs::Writes::writes))]
     fn make_ready<V: Vault>(
         &mut self,
         vault: &mut V,
@@ -158,7 +160,7 @@ impl Store {
         ensures ready { OnOk result (Goes (V.view_of vault.old) (V.view_of vault.new) self.old.file (λ xs ys. IsReady xs ys self.new.header self.new.table located.new.at located.new.bucket key.now located.new.place)) }
         ensures empty { OnOk result (IfNone located.new.place (count is_full located.new.bucket.slots < length located.new.bucket.slots)) }
         ensures full { OnOk result (IfSome located.new.place (λ p. is_full (slice_index_or located.new.bucket.slots p Slot.Empty) ≡ true)) }
-        ensures few { OnOk result (OnFile (V.view_of vault.old) self.old.file (λ file. has_slot file key.now ≡ true → (self.new ≡ self.old) × OnlyAsks (V.view_of vault.old) (V.view_of vault.new))) }
+        ensures few { OnFile (V.view_of vault.old) self.old.file (λ file. has_slot file key.now ≡ true → (self.new ≡ self.old) × OnlyAsks (V.view_of vault.old) (V.view_of vault.new)) }
         ensures elems { length located.new.bucket.slots ≡ self.new.header.elems }
         ensures hash { located.new.hash ≡ located.old.hash }
         ensures place { located.new.place ≡ located.old.place }
@@ -167,8 +169,9 @@ impl Store {
         ensures bound { self.new.header.next_block ≤ self.old.header.next_block + (2 ^ 29 - 2 ^ 25) }
         ensures growth { OnOk result (self.new.header.next_block + 2 * dir_size_of self.old.header.dir_bits ≤ self.old.header.next_block + 144 * self.old.header.block + 2 * dir_size_of self.new.header.dir_bits) }
         ensures there { HasFile (V.view_of vault.new) self.old.file }
-        ensures frame { Within (OneFile self.old.file) NoName (V.view_of vault.old) (V.view_of vault.new) }
-        ensures amount { WritesAtMost (150 * self.old.header.block + 2 ^ 30) (V.view_of vault.old) (V.view_of vault.new) }
+        ensures frame { OnlyWrites self.old.file (V.view_of vault.old) (V.view_of vault.new) }
+        ensures amount { WritesAtMost (100 * self.old.header.block + 4 * dir_size_of self.new.header.dir_bits) (V.view_of vault.old) (V.view_of vault.new) }
+        ensures little { OnOk result (WritesAtMost (97 * self.old.header.block + 2 * dir_size_of self.new.header.dir_bits) (V.view_of vault.old) (V.view_of vault.new)) }
         ensures kind { IfErr result (λ e. is_room_error e ≡ true) }
         ensures fault { IfErr result (λ e. e ≡ DbError.VaultFault → Rose (V.view_of vault.old).faults (V.view_of vault.new).faults) }
         ensures memory { IfErr result (λ e. e ≡ DbError.OutOfMemory → (self.new ≡ self.old) × OnlyAsks (V.view_of vault.old) (V.view_of vault.new)) }
@@ -181,7 +184,7 @@ impl Store {
     }
 
     // Stores a pair that is not too large in a database that is open to write and not broken.
-    #[tactic(auto, using(gd_vault::proofs::Within::within))]
+    #[tactic(auto, using(gd_vault::proofs::Writes::writes))]
     fn store_pair<V: Vault>(
         &mut self,
         vault: &mut V,
@@ -196,16 +199,19 @@ impl Store {
         requires size { length key.now + length value.now ≤ 2 ^ 30 }
         ensures stored { OnOk result (Becomes (V.view_of vault.old) (V.view_of vault.new) self.old.file self.new (λ file. insert (pair_map (records file)) key.now value.now) (λ file. store_loss file key.now)) }
         ensures due { OnOk result (OnFile (V.view_of vault.old) self.old.file (λ file. pair_due (records file) self.old.header.elems self.old.header.next_block how key.now value.now ≡ None)) }
-        ensures refused { IfErr result (λ e. RefusedChanging e self.old.file (V.view_of vault.old) (V.view_of vault.new) (λ file. pair_due (records file) self.old.header.elems self.old.header.next_block how key.now value.now)) }
+        ensures refused { IfErr result (λ e. RefusedStoring e self.old.file (V.view_of vault.old) (V.view_of vault.new) (λ file. pair_due (records file) self.old.header.elems self.old.header.next_block how key.now value.now)) }
+        ensures cause { IfErr result (λ e. StoreCause e how self.old.header.next_block (length key.now + length value.now)) }
+        ensures small { OnOk result (StoreFits self.old.header.next_block (length key.now + length value.now)) }
+        ensures early { IfErr result (λ e. is_growth_error e ≡ false → (self.new ≡ self.old) × OnlyAsks (V.view_of vault.old) (V.view_of vault.new)) }
         ensures kept { IfErr result (λ e. e ≢ DbError.VaultFault → IsAt (V.view_of vault.old) (λ _. (self.new ≡ self.old) × OnlyAsks (V.view_of vault.old) (V.view_of vault.new))) }
         ensures rest { self.new ≡ record self.old { header = self.new.header; table = self.new.table } }
-        ensures block { self.new.header.block ≡ self.old.header.block }
+        ensures header { IsWider self.old.header self.new.header }
         ensures growth { OnOk result (self.new.header.next_block + 2 * dir_size_of self.old.header.dir_bits ≤ self.old.header.next_block + (length key.now + length value.now) + 256 * self.old.header.block + 2 * dir_size_of self.new.header.dir_bits) }
         ensures growth_few { OnOk result (OnFile (V.view_of vault.old) self.old.file (λ file. has_slot file key.now ≡ true → self.new.header.next_block ≤ self.old.header.next_block + (length key.now + length value.now + 3 * self.old.header.block))) }
         ensures growth_none { OnOk result (OnFile (V.view_of vault.old) self.old.file (λ file. FindsRoom file self.old.table key.now (length key.now + length value.now) → self.new.header.next_block ≡ self.old.header.next_block)) }
-        ensures amount { WritesAtMost (length key.now + length value.now + 154 * self.old.header.block + 2 ^ 30) (V.view_of vault.old) (V.view_of vault.new) }
-        ensures amount_few { OnOk result (OnFile (V.view_of vault.old) self.old.file (λ file. has_slot file key.now ≡ true → WritesAtMost (length key.now + length value.now + 4 * self.old.header.block) (V.view_of vault.old) (V.view_of vault.new))) }
-        ensures frame { Within (OneFile self.old.file) NoName (V.view_of vault.old) (V.view_of vault.new) }
+        ensures amount { WritesAtMost (length key.now + length value.now + 100 * self.old.header.block + 4 * dir_size_of self.new.header.dir_bits) (V.view_of vault.old) (V.view_of vault.new) }
+        ensures amount_few { OnFile (V.view_of vault.old) self.old.file (λ file. has_slot file key.now ≡ true → WritesAtMost (length key.now + length value.now + 3 * self.old.header.block) (V.view_of vault.old) (V.view_of vault.new)) }
+        ensures frame { OnlyWrites self.old.file (V.view_of vault.old) (V.view_of vault.new) }
     {
         let mut located = self.locate(vault, key)?;
         if let Some(e) = refusal(&located, how) {
@@ -240,6 +246,7 @@ impl Store {
     ///
     /// A full bucket is split, and the directory doubled, until the key's bucket has an empty slot. All memory is taken
     /// before the first write. After a fault of the vault the database is broken.
+    #[tactic(auto, using(gd_vault::proofs::Writes::writes, crate::proofs::Asking::same_cached))]
     pub fn store<V: Vault>(
         &mut self,
         vault: &mut V,
@@ -249,23 +256,26 @@ impl Store {
     ) -> Result<(), DbError>
         requires file { HasFile (V.view_of vault.old) self.old.file }
         requires fits { Fits (V.view_of vault.old) self.old }
-        ensures broken { self.old.broken ≡ true → result ≡ Err DbError.NeedRecovery }
-        ensures reader { self.old.broken ≡ false → self.old.access ≡ Access.Reader → result ≡ Err DbError.ReaderCant }
-        ensures large { self.old.broken ≡ false → self.old.access ≡ Access.Writer → 2 ^ 30 < length key.now + length value.now → result ≡ Err DbError.TooLarge }
+        ensures broken { self.old.broken ≡ true → RefusedAtOnce DbError.NeedRecovery result self.old self.new (V.view_of vault.old) (V.view_of vault.new) }
+        ensures reader { self.old.broken ≡ false → self.old.access ≡ Access.Reader → RefusedAtOnce DbError.ReaderCant result self.old self.new (V.view_of vault.old) (V.view_of vault.new) }
+        ensures large { self.old.broken ≡ false → self.old.access ≡ Access.Writer → 2 ^ 30 < length key.now + length value.now → RefusedAtOnce DbError.TooLarge result self.old self.new (V.view_of vault.old) (V.view_of vault.new) }
         ensures stored { OnOk result (Becomes (V.view_of vault.old) (V.view_of vault.new) self.old.file self.new (λ file. insert (pair_map (records file)) key.now value.now) (λ file. store_loss file key.now)) }
         ensures due { OnOk result (OnFile (V.view_of vault.old) self.old.file (λ file. store_due (records file) self.old.header.elems self.old.header.next_block how key.now value.now ≡ None)) }
-        ensures refused { self.old.broken ≡ false → self.old.access ≡ Access.Writer → IfErr result (λ e. RefusedChanging e self.old.file (V.view_of vault.old) (V.view_of vault.new) (λ file. store_due (records file) self.old.header.elems self.old.header.next_block how key.now value.now)) }
-        ensures kept { IfErr result (λ e. e ≢ DbError.VaultFault → IsAt (V.view_of vault.old) (λ _. (self.new ≡ self.old) × OnlyAsks (V.view_of vault.old) (V.view_of vault.new))) }
-        ensures breaks { self.old.broken ≡ false → self.new.broken ≡ is_fault result }
+        ensures refused { self.old.broken ≡ false → self.old.access ≡ Access.Writer → IfErr result (λ e. RefusedStoring e self.old.file (V.view_of vault.old) (V.view_of vault.new) (λ file. store_due (records file) self.old.header.elems self.old.header.next_block how key.now value.now)) }
+        ensures cause { IfErr result (λ e. StoreCause e how self.old.header.next_block (length key.now + length value.now)) }
+        ensures small { OnOk result (StoreFits self.old.header.next_block (length key.now + length value.now)) }
+        ensures early { IfErr result (λ e. is_growth_error e ≡ false → SameButCached self.old self.new × OnlyAsks (V.view_of vault.old) (V.view_of vault.new)) }
+        ensures kept { IfErr result (λ e. e ≢ DbError.VaultFault → IsAt (V.view_of vault.old) (λ _. SameButCached self.old self.new × OnlyAsks (V.view_of vault.old) (V.view_of vault.new))) }
+        ensures breaks { self.new.broken ≡ (self.old.broken || is_fault result) }
         ensures fits { Fits (V.view_of vault.new) self.new }
         ensures there { HasFile (V.view_of vault.new) self.new.file }
         ensures same { Keeps self.old self.new }
         ensures growth { OnOk result (self.new.header.next_block + 2 * dir_size_of self.old.header.dir_bits ≤ self.old.header.next_block + (length key.now + length value.now) + 256 * self.old.header.block + 2 * dir_size_of self.new.header.dir_bits) }
         ensures growth_few { OnOk result (OnFile (V.view_of vault.old) self.old.file (λ file. has_slot file key.now ≡ true → self.new.header.next_block ≤ self.old.header.next_block + (length key.now + length value.now + 3 * self.old.header.block))) }
         ensures growth_none { OnOk result (OnFile (V.view_of vault.old) self.old.file (λ file. FindsRoom file self.old.table key.now (length key.now + length value.now) → self.new.header.next_block ≡ self.old.header.next_block)) }
-        ensures amount { WritesAtMost (length key.now + length value.now + 154 * self.old.header.block + 2 ^ 30) (V.view_of vault.old) (V.view_of vault.new) }
-        ensures amount_few { OnOk result (OnFile (V.view_of vault.old) self.old.file (λ file. has_slot file key.now ≡ true → WritesAtMost (length key.now + length value.now + 4 * self.old.header.block) (V.view_of vault.old) (V.view_of vault.new))) }
-        ensures frame { Within (OneFile self.old.file) NoName (V.view_of vault.old) (V.view_of vault.new) }
+        ensures amount { WritesAtMost (length key.now + length value.now + 100 * self.old.header.block + 4 * dir_size_of self.new.header.dir_bits) (V.view_of vault.old) (V.view_of vault.new) }
+        ensures amount_few { OnFile (V.view_of vault.old) self.old.file (λ file. has_slot file key.now ≡ true → WritesAtMost (length key.now + length value.now + 3 * self.old.header.block) (V.view_of vault.old) (V.view_of vault.new)) }
+        ensures frame { OnlyWrites self.old.file (V.view_of vault.old) (V.view_of vault.new) }
     {
         if self.broken {
             return Err(DbError::NeedRecovery);

@@ -24,7 +24,11 @@ fn an_insert_does_not_replace(rt: HostRuntime) -> Result<(), Fail> {
         return Err("refused".into());
     };
     assert!(rt; trial.insert(b"k", b"v") == Ok(()));
+    let Ok(before) = trial.bytes().to_vec(rt.alloc()) else {
+        return Err("no memory".into());
+    };
     assert!(rt; trial.insert(b"k", b"w") == Err(DbError::CannotReplace));
+    assert!(rt; trial.bytes() == before.as_slice());
     assert!(rt; trial.has(b"k", b"v"));
     assert!(rt; trial.exists(b"k") == Ok(true));
     assert!(rt; trial.exists(b"v") == Ok(false));

@@ -1,4 +1,4 @@
-use Rattle.std.proofs.Common.{sym, ap, ◌∙◌}
+use Rattle.std.proofs.Common.{ap}
 use Rattle.gd_lookup.proofs.Opens.{of_file_stays}
 use Rattle.gd_store.specs.Opened.{Opened}
 use Rattle.gd_store.proofs.Asking.{opens_inside}

@@ -1,5 +1,5 @@
 use Rattle.std.proofs.Common.{not, ap, ◌∙◌}
-use Rattle.gd_store.proofs.Changing.{on_ok_always, on_ok_map}
+use Rattle.gd_store.proofs.Changing.{on_ok_map}
 use Rattle.gd_store.proofs.Rooms.{hash_below, none_of, ready_after, ready_here, room_bucket, room_open, slot_lacks}
 use Rattle.gd_store.proofs.store.Store.make_ready.Goals as goal
 
@@ -26,12 +26,11 @@ returns-then-is_crowded-clause-ready g c =
 pub returns-then-is_crowded-clause-few : goal.returns-then-is_crowded-clause-few
 returns-then-is_crowded-clause-few g c =
     let none = none_of c.args.located.now.place (c.is_none.ensures ∙ ap not c.if-is_none.true) in
-    on_ok_always c.split_full.result _
-    (λ k x told there has.
+    λ k x told there has.
     let lacks = slot_lacks (g.V.Vault.view_of c.args.vault.now) c.args.self.now c.args.key.now c.args.located.now.hash c.args.located.now.at c.args.located.now.bucket c.args.located.now.place
     (record { fits = c.requires.fits; whole = c.requires.whole; hash_is = c.requires.hash; elems = c.requires.elems; found = c.requires.found })
     none (c.is_crowded.ensures.yes c.if-is_crowded.true) k x told there in
-    absurd (cc (has, lacks)))
+    absurd (cc (has, lacks))
 
 pub returns-clause-ready : goal.returns-clause-ready
 returns-clause-ready g c =
