@@ -39,6 +39,7 @@ pub fn bucket_address<V: Vault>(
     requires readable { OfFile (V.view_of vault.old) f.0 header.now }
     requires hash { hash < 2 ^ 31 }
     ensures asks { OnlyAsks (V.view_of vault.old) (V.view_of vault.new) }
+    ensures answered { IfOk result (λ _. (V.view_of vault.new).faults ≡ (V.view_of vault.old).faults) }
     ensures address { IfOk result (λ at. AtFile (V.view_of vault.old) f.0 (λ file. at ≡ natural (entry_at file header.now (hash / 2 ^ (31 - header.now.dir_bits))))) }
     ensures place { IfOk result (λ at. AtFile (V.view_of vault.old) f.0 (λ file. IsBucketPlace file header.now at)) }
     ensures refused { IfErr result (λ e. RefusesRead e (V.view_of vault.old) (V.view_of vault.new)) }
@@ -62,6 +63,7 @@ pub fn bucket_at<V: Vault>(
     requires size { length buf.old ≡ header.now.block }
     requires place { AtFile (V.view_of vault.old) f.0 (λ file. IsBucketPlace file header.now at) }
     ensures asks { OnlyAsks (V.view_of vault.old) (V.view_of vault.new) }
+    ensures answered { IfOk result (λ _. (V.view_of vault.new).faults ≡ (V.view_of vault.old).faults) }
     ensures slots { IfOk result (λ b. length b.slots ≡ header.now.elems) }
     ensures some { IfOk result (λ b. 0 < length b.slots) }
     ensures bucket { IfOk result (λ b. AtFile (V.view_of vault.old) f.0 (λ file. b ≡ spec.bucket_at (bytes_at file at header.now.block) header.now.elems)) }
@@ -86,6 +88,7 @@ pub fn find_key<V: Vault>(
     requires hash { hash ≡ hash_of key.now }
     requires bucket { OfKey (V.view_of vault.old) f.0 key.now bucket.now.slots }
     ensures asks { OnlyAsks (V.view_of vault.old) (V.view_of vault.new) }
+    ensures answered { IfOk result (λ _. (V.view_of vault.new).faults ≡ (V.view_of vault.old).faults) }
     ensures candidate { IfOk result (λ r. IfSome r (λ p. IsCandidateAt bucket.now.slots hash key.now p)) }
     ensures present { IfOk result (λ r. IfSome r (λ p. AtFile (V.view_of vault.old) f.0 (λ file. IsKeySlot file key.now (get_or bucket.now.slots p Slot.Empty)))) }
     ensures absent { IfOk result (λ r. IfNone r (AtFile (V.view_of vault.old) f.0 (λ file. IsKeyAbsent file key.now bucket.now.slots))) }
@@ -108,6 +111,7 @@ pub fn read_key<V: Vault>(
     requires full { is_full slot.now ≡ true }
     requires inside { AtFile (V.view_of vault.old) f.0 (λ file. LiesIn (length file) slot.now) }
     ensures asks { OnlyAsks (V.view_of vault.old) (V.view_of vault.new) }
+    ensures answered { IfOk result (λ _. (V.view_of vault.new).faults ≡ (V.view_of vault.old).faults) }
     ensures key { IfOk result (λ k. AtFile (V.view_of vault.old) f.0 (λ file. k ≡ key_in file slot.now)) }
     ensures refused { IfErr result (λ e. RefusesRead e (V.view_of vault.old) (V.view_of vault.new)) }
 {
@@ -129,6 +133,7 @@ pub fn read_value<V: Vault>(
     requires fits { FitsFields slot.now }
     requires inside { AtFile (V.view_of vault.old) f.0 (λ file. LiesIn (length file) slot.now) }
     ensures asks { OnlyAsks (V.view_of vault.old) (V.view_of vault.new) }
+    ensures answered { IfOk result (λ _. (V.view_of vault.new).faults ≡ (V.view_of vault.old).faults) }
     ensures value { IfOk result (λ v. AtFile (V.view_of vault.old) f.0 (λ file. v ≡ value_in file slot.now)) }
     ensures refused { IfErr result (λ e. RefusesRead e (V.view_of vault.old) (V.view_of vault.new)) }
 {
@@ -142,6 +147,7 @@ pub fn count<V: Vault>(vault: &mut V, f: FileId, header: &Header) -> Result<u64,
     requires header { IsHeader header.now }
     requires readable { OfFile (V.view_of vault.old) f.0 header.now }
     ensures asks { OnlyAsks (V.view_of vault.old) (V.view_of vault.new) }
+    ensures answered { IfOk result (λ _. (V.view_of vault.new).faults ≡ (V.view_of vault.old).faults) }
     ensures count { IfOk result (λ n. AtFile (V.view_of vault.old) f.0 (λ file. n ≡ length (records file))) }
     ensures refused { IfErr result (λ e. RefusesRead e (V.view_of vault.old) (V.view_of vault.new)) }
 {
@@ -162,6 +168,7 @@ pub fn first_key<V: Vault>(
     requires readable { OfFile (V.view_of vault.old) f.0 header.now }
     requires size { length buf.old ≡ header.now.block }
     ensures asks { OnlyAsks (V.view_of vault.old) (V.view_of vault.new) }
+    ensures answered { IfOk result (λ _. (V.view_of vault.new).faults ≡ (V.view_of vault.old).faults) }
     ensures first { IfOk result (λ r. AtFile (V.view_of vault.old) f.0 (λ file. r ≡ first_of (records file))) }
     ensures refused { IfErr result (λ e. RefusesRead e (V.view_of vault.old) (V.view_of vault.new)) }
 {
@@ -183,6 +190,7 @@ pub fn key_after<V: Vault>(
     requires readable { OfFile (V.view_of vault.old) f.0 header.now }
     requires size { length buf.old ≡ header.now.block }
     ensures asks { OnlyAsks (V.view_of vault.old) (V.view_of vault.new) }
+    ensures answered { IfOk result (λ _. (V.view_of vault.new).faults ≡ (V.view_of vault.old).faults) }
     ensures next { IfOk result (λ r. AtFile (V.view_of vault.old) f.0 (λ file. r ≡ successor key.now (records file))) }
     ensures refused { IfErr result (λ e. RefusesRead e (V.view_of vault.old) (V.view_of vault.new)) }
 {

@@ -38,6 +38,7 @@ fn same_as_key<V: Vault>(
     requires ends { at + length key.now < 2 ^ 64 }
     ensures same { kept_of (V.view_of vault.new) ≡ kept_of (V.view_of vault.old) }
     ensures later { (V.view_of vault.old).faults ≤ (V.view_of vault.new).faults }
+    ensures answered { IfOk result (λ _. (V.view_of vault.new).faults ≡ (V.view_of vault.old).faults) }
     ensures failed { IfErr result (λ e. IsCause e (V.view_of vault.old).faults (V.view_of vault.new).faults) }
     ensures answer { IfOk result (λ r. Tells (bytes_in (kept_of (V.view_of vault.old)) f.0) (λ file. IsIn file at (length key.now) → r ≡ Some (bytes_eq (bytes_at file at (length key.now)) key.now))) }
 {
@@ -73,6 +74,7 @@ fn is_own<V: Vault>(
     requires inside { Tells (bytes_in (kept_of (V.view_of vault.old)) f.0) (λ file. LiesIn (length file) slot.now) }
     ensures same { kept_of (V.view_of vault.new) ≡ kept_of (V.view_of vault.old) }
     ensures later { (V.view_of vault.old).faults ≤ (V.view_of vault.new).faults }
+    ensures answered { IfOk result (λ _. (V.view_of vault.new).faults ≡ (V.view_of vault.old).faults) }
     ensures own { IfOk result (λ r. Tells (bytes_in (kept_of (V.view_of vault.old)) f.0) (λ file. r ≡ is_slot_of file key.now slot.now)) }
     ensures refused { IfErr result (λ e. IsRefused e (kept_of (V.view_of vault.old)) f.0 (V.view_of vault.old).faults (V.view_of vault.new).faults) }
 {
@@ -117,6 +119,7 @@ pub fn find_in<V: Vault>(
     requires bucket { Tells (bytes_in (kept_of (V.view_of vault.old)) f.0) (λ file. IsKeyBucket file key.now bucket.now.slots) }
     ensures same { kept_of (V.view_of vault.new) ≡ kept_of (V.view_of vault.old) }
     ensures later { (V.view_of vault.old).faults ≤ (V.view_of vault.new).faults }
+    ensures answered { IfOk result (λ _. (V.view_of vault.new).faults ≡ (V.view_of vault.old).faults) }
     ensures candidate { IfOk result (λ r. IfSome r (λ p. IsCandidateAt bucket.now.slots hash key.now p)) }
     ensures present { IfOk result (λ r. IfSome r (λ p. Tells (bytes_in (kept_of (V.view_of vault.old)) f.0) (λ file. IsKeySlot file key.now (get_or bucket.now.slots p Slot.Empty)))) }
     ensures absent { IfOk result (λ r. IfNone r (Tells (bytes_in (kept_of (V.view_of vault.old)) f.0) (λ file. IsKeyAbsent file key.now bucket.now.slots))) }

@@ -63,6 +63,7 @@ fn raw_key<V: Vault>(
     requires right { Tells (bytes_in (kept_of (V.view_of vault.old)) f.0) (λ file. (are_fields_right raw.now ≡ true) × (is_record_in (length file) raw.now ≡ true)) }
     ensures same { kept_of (V.view_of vault.new) ≡ kept_of (V.view_of vault.old) }
     ensures later { (V.view_of vault.old).faults ≤ (V.view_of vault.new).faults }
+    ensures answered { IfOk result (λ _. (V.view_of vault.new).faults ≡ (V.view_of vault.old).faults) }
     ensures key { IfOk result (λ k. Tells (bytes_in (kept_of (V.view_of vault.old)) f.0) (λ file. k ≡ key_of file raw.now)) }
     ensures refused { IfErr result (λ e. IsRefused e (kept_of (V.view_of vault.old)) f.0 (V.view_of vault.old).faults (V.view_of vault.new).faults) }
 {
@@ -92,6 +93,7 @@ fn first_in_block<V: Vault>(
     requires block { Tells (bytes_in (kept_of (V.view_of vault.old)) f.0) (λ file. IsBlock file header.now block.now) }
     ensures same { kept_of (V.view_of vault.new) ≡ kept_of (V.view_of vault.old) }
     ensures later { (V.view_of vault.old).faults ≤ (V.view_of vault.new).faults }
+    ensures answered { IfOk result (λ _. (V.view_of vault.new).faults ≡ (V.view_of vault.old).faults) }
     ensures some { IfOk result (λ r. IfSome r (λ _. Tells (bytes_in (kept_of (V.view_of vault.old)) f.0) (λ file. first_of (slots_left file header.now.elems block.now from) ≡ r))) }
     ensures none { IfOk result (λ r. IfNone r (passing_from (is_full_at block.now) header.now.elems from ≡ [])) }
     ensures refused { IfErr result (λ e. IsRefused e (kept_of (V.view_of vault.old)) f.0 (V.view_of vault.old).faults (V.view_of vault.new).faults) }
@@ -120,6 +122,7 @@ fn first_from<V: Vault>(
     requires begins { Tells (bytes_in (kept_of (V.view_of vault.old)) f.0) (λ file. Begins file header.now from) }
     ensures same { kept_of (V.view_of vault.new) ≡ kept_of (V.view_of vault.old) }
     ensures later { (V.view_of vault.old).faults ≤ (V.view_of vault.new).faults }
+    ensures answered { IfOk result (λ _. (V.view_of vault.new).faults ≡ (V.view_of vault.old).faults) }
     ensures first { IfOk result (λ r. Tells (bytes_in (kept_of (V.view_of vault.old)) f.0) (λ file. r ≡ first_of (buckets_left file header.now from))) }
     ensures refused { IfErr result (λ e. IsRefused e (kept_of (V.view_of vault.old)) f.0 (V.view_of vault.old).faults (V.view_of vault.new).faults) }
 {
@@ -154,6 +157,7 @@ pub fn first_key_of<V: Vault>(
     requires readable { Tells (bytes_in (kept_of (V.view_of vault.old)) f.0) (λ file. IsOpen file header.now) }
     ensures same { kept_of (V.view_of vault.new) ≡ kept_of (V.view_of vault.old) }
     ensures later { (V.view_of vault.old).faults ≤ (V.view_of vault.new).faults }
+    ensures answered { IfOk result (λ _. (V.view_of vault.new).faults ≡ (V.view_of vault.old).faults) }
     ensures first { IfOk result (λ r. Tells (bytes_in (kept_of (V.view_of vault.old)) f.0) (λ file. r ≡ first_of (records file))) }
     ensures refused { IfErr result (λ e. IsRefused e (kept_of (V.view_of vault.old)) f.0 (V.view_of vault.old).faults (V.view_of vault.new).faults) }
 {
@@ -182,6 +186,7 @@ fn first_behind<V: Vault>(
     requires block { Tells (bytes_in (kept_of (V.view_of vault.old)) f.0) (λ file. block.old ≡ block_of file header.now i) }
     ensures same { kept_of (V.view_of vault.new) ≡ kept_of (V.view_of vault.old) }
     ensures later { (V.view_of vault.old).faults ≤ (V.view_of vault.new).faults }
+    ensures answered { IfOk result (λ _. (V.view_of vault.new).faults ≡ (V.view_of vault.old).faults) }
     ensures first { IfOk result (λ r. Tells (bytes_in (kept_of (V.view_of vault.old)) f.0) (λ file. r ≡ first_of (slots_left file header.now.elems (block_of file header.now i) (place + 1) ++ buckets_left file header.now (behind file header.now i)))) }
     ensures refused { IfErr result (λ e. IsRefused e (kept_of (V.view_of vault.old)) f.0 (V.view_of vault.old).faults (V.view_of vault.new).faults) }
 {
@@ -222,6 +227,7 @@ pub fn after_key<V: Vault>(
     requires readable { Tells (bytes_in (kept_of (V.view_of vault.old)) f.0) (λ file. IsOpen file header.now) }
     ensures same { kept_of (V.view_of vault.new) ≡ kept_of (V.view_of vault.old) }
     ensures later { (V.view_of vault.old).faults ≤ (V.view_of vault.new).faults }
+    ensures answered { IfOk result (λ _. (V.view_of vault.new).faults ≡ (V.view_of vault.old).faults) }
     ensures next { IfOk result (λ r. Tells (bytes_in (kept_of (V.view_of vault.old)) f.0) (λ file. r ≡ successor key.now (records file))) }
     ensures refused { IfErr result (λ e. IsRefused e (kept_of (V.view_of vault.old)) f.0 (V.view_of vault.old).faults (V.view_of vault.new).faults) }
 {

@@ -44,6 +44,7 @@ pub fn entry_address<V: Vault>(
     requires within { i < entries_of header.now }
     ensures same { kept_of (V.view_of vault.new) ≡ kept_of (V.view_of vault.old) }
     ensures later { (V.view_of vault.old).faults ≤ (V.view_of vault.new).faults }
+    ensures answered { IfOk result (λ _. (V.view_of vault.new).faults ≡ (V.view_of vault.old).faults) }
     ensures address { IfOk result (λ at. Tells (bytes_in (kept_of (V.view_of vault.old)) f.0) (λ file. at ≡ natural (entry_at file header.now i))) }
     ensures refused { IfErr result (λ e. IsRefused e (kept_of (V.view_of vault.old)) f.0 (V.view_of vault.old).faults (V.view_of vault.new).faults) }
 {
@@ -73,6 +74,7 @@ pub fn read_block<V: Vault>(
     requires place { Tells (bytes_in (kept_of (V.view_of vault.old)) f.0) (λ file. IsBucketPlace file header.now at) }
     ensures same { kept_of (V.view_of vault.new) ≡ kept_of (V.view_of vault.old) }
     ensures later { (V.view_of vault.old).faults ≤ (V.view_of vault.new).faults }
+    ensures answered { IfOk result (λ _. (V.view_of vault.new).faults ≡ (V.view_of vault.old).faults) }
     ensures block { IfOk result (λ _. Tells (bytes_in (kept_of (V.view_of vault.old)) f.0) (λ file. buf.new ≡ bytes_at file at header.now.block)) }
     ensures refused { IfErr result (λ e. IsRefused e (kept_of (V.view_of vault.old)) f.0 (V.view_of vault.old).faults (V.view_of vault.new).faults) }
 {
@@ -100,6 +102,7 @@ pub fn bucket_in<V: Vault>(
     requires place { Tells (bytes_in (kept_of (V.view_of vault.old)) f.0) (λ file. IsBucketPlace file header.now at) }
     ensures same { kept_of (V.view_of vault.new) ≡ kept_of (V.view_of vault.old) }
     ensures later { (V.view_of vault.old).faults ≤ (V.view_of vault.new).faults }
+    ensures answered { IfOk result (λ _. (V.view_of vault.new).faults ≡ (V.view_of vault.old).faults) }
     ensures slots { IfOk result (λ b. length b.slots ≡ header.now.elems) }
     ensures some { IfOk result (λ b. 0 < length b.slots) }
     ensures bucket { IfOk result (λ b. Tells (bytes_in (kept_of (V.view_of vault.old)) f.0) (λ file. b ≡ spec.bucket_at (bytes_at file at header.now.block) header.now.elems)) }
@@ -119,6 +122,7 @@ fn fill_some<V: Vault>(vault: &mut V, f: FileId, at: u64, buf: &mut [u8]) -> Res
     requires there { is_there (kept_of (V.view_of vault.old)) f.0 ≡ true }
     ensures same { kept_of (V.view_of vault.new) ≡ kept_of (V.view_of vault.old) }
     ensures later { (V.view_of vault.old).faults ≤ (V.view_of vault.new).faults }
+    ensures answered { IfOk result (λ _. (V.view_of vault.new).faults ≡ (V.view_of vault.old).faults) }
     ensures failed { IfErr result (λ e. IsCause e (V.view_of vault.old).faults (V.view_of vault.new).faults) }
     ensures whole { IfOk result (λ whole. Tells (bytes_in (kept_of (V.view_of vault.old)) f.0) (λ file. IsIn file at (length buf.old) → whole ≡ true)) }
     ensures read { IfOk result (λ _. Tells (bytes_in (kept_of (V.view_of vault.old)) f.0) (λ file. IsIn file at (length buf.old) → buf.new ≡ bytes_at file at (length buf.old))) }
@@ -142,6 +146,7 @@ pub fn bytes_from<V: Vault>(
     requires there { is_there (kept_of (V.view_of vault.old)) f.0 ≡ true }
     ensures same { kept_of (V.view_of vault.new) ≡ kept_of (V.view_of vault.old) }
     ensures later { (V.view_of vault.old).faults ≤ (V.view_of vault.new).faults }
+    ensures answered { IfOk result (λ _. (V.view_of vault.new).faults ≡ (V.view_of vault.old).faults) }
     ensures whole { IfOk result (λ r. Tells (bytes_in (kept_of (V.view_of vault.old)) f.0) (λ file. IsIn file at size → IsSome r)) }
     ensures bytes { IfOk result (λ r. IfSome r (λ d. Tells (bytes_in (kept_of (V.view_of vault.old)) f.0) (λ file. IsIn file at size → d ≡ bytes_at file at size))) }
     ensures refused { IfErr result (λ e. IsRefused e (kept_of (V.view_of vault.old)) f.0 (V.view_of vault.old).faults (V.view_of vault.new).faults) }
@@ -170,6 +175,7 @@ pub fn part_of_record<V: Vault>(
     requires inside { Tells (bytes_in (kept_of (V.view_of vault.old)) f.0) (λ file. IsIn file from size) }
     ensures same { kept_of (V.view_of vault.new) ≡ kept_of (V.view_of vault.old) }
     ensures later { (V.view_of vault.old).faults ≤ (V.view_of vault.new).faults }
+    ensures answered { IfOk result (λ _. (V.view_of vault.new).faults ≡ (V.view_of vault.old).faults) }
     ensures bytes { IfOk result (λ d. Tells (bytes_in (kept_of (V.view_of vault.old)) f.0) (λ file. d ≡ bytes_at file from size)) }
     ensures refused { IfErr result (λ e. IsRefused e (kept_of (V.view_of vault.old)) f.0 (V.view_of vault.old).faults (V.view_of vault.new).faults) }
 {
@@ -193,6 +199,7 @@ pub fn key_bytes<V: Vault>(
     requires inside { Tells (bytes_in (kept_of (V.view_of vault.old)) f.0) (λ file. LiesIn (length file) slot.now) }
     ensures same { kept_of (V.view_of vault.new) ≡ kept_of (V.view_of vault.old) }
     ensures later { (V.view_of vault.old).faults ≤ (V.view_of vault.new).faults }
+    ensures answered { IfOk result (λ _. (V.view_of vault.new).faults ≡ (V.view_of vault.old).faults) }
     ensures key { IfOk result (λ k. Tells (bytes_in (kept_of (V.view_of vault.old)) f.0) (λ file. k ≡ key_in file slot.now)) }
     ensures refused { IfErr result (λ e. IsRefused e (kept_of (V.view_of vault.old)) f.0 (V.view_of vault.old).faults (V.view_of vault.new).faults) }
 {
@@ -220,6 +227,7 @@ pub fn value_bytes<V: Vault>(
     requires inside { Tells (bytes_in (kept_of (V.view_of vault.old)) f.0) (λ file. LiesIn (length file) slot.now) }
     ensures same { kept_of (V.view_of vault.new) ≡ kept_of (V.view_of vault.old) }
     ensures later { (V.view_of vault.old).faults ≤ (V.view_of vault.new).faults }
+    ensures answered { IfOk result (λ _. (V.view_of vault.new).faults ≡ (V.view_of vault.old).faults) }
     ensures value { IfOk result (λ v. Tells (bytes_in (kept_of (V.view_of vault.old)) f.0) (λ file. v ≡ value_in file slot.now)) }
     ensures refused { IfErr result (λ e. IsRefused e (kept_of (V.view_of vault.old)) f.0 (V.view_of vault.old).faults (V.view_of vault.new).faults) }
 {

@@ -55,6 +55,7 @@ fn share_at<V: Vault>(vault: &mut V, f: FileId, header: &Header, i: u64) -> Resu
     requires within { i < entries_of header.now }
     ensures same { kept_of (V.view_of vault.new) ≡ kept_of (V.view_of vault.old) }
     ensures later { (V.view_of vault.old).faults ≤ (V.view_of vault.new).faults }
+    ensures answered { IfOk result (λ _. (V.view_of vault.new).faults ≡ (V.view_of vault.old).faults) }
     ensures share { IfOk result (λ s. Tells (bytes_in (kept_of (V.view_of vault.old)) f.0) (λ file. (s.run ≡ run_at file header.now i) × (s.full ≡ natural (counts_at (block_of file header.now i)).full))) }
     ensures some { IfOk result (λ s. 0 < s.run) }
     ensures most { IfOk result (λ s. s.run ≤ 2 ^ 24) }
@@ -81,6 +82,7 @@ pub fn total<V: Vault>(vault: &mut V, f: FileId, header: &Header) -> Result<u64,
     requires readable { Tells (bytes_in (kept_of (V.view_of vault.old)) f.0) (λ file. IsOpen file header.now) }
     ensures same { kept_of (V.view_of vault.new) ≡ kept_of (V.view_of vault.old) }
     ensures later { (V.view_of vault.old).faults ≤ (V.view_of vault.new).faults }
+    ensures answered { IfOk result (λ _. (V.view_of vault.new).faults ≡ (V.view_of vault.old).faults) }
     ensures total { IfOk result (λ n. Tells (bytes_in (kept_of (V.view_of vault.old)) f.0) (λ file. n ≡ length (records file))) }
     ensures refused { IfErr result (λ e. IsRefused e (kept_of (V.view_of vault.old)) f.0 (V.view_of vault.old).faults (V.view_of vault.new).faults) }
 {

@@ -38,7 +38,7 @@ candidates-preserved g c =
     record {
       far = let high = next.high in omega (arith, high);
       same = search rules;
-      later = omega (arith, old.later, c.in_ok-own.ensures.later);
+      later = omega (arith, old.later, c.in_ok-own.ensures.answered);
       passed =
           λ file told.
           let told_one = told_then _ _ c.args.f.0 file old.same told in

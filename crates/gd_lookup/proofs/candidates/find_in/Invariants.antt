@@ -8,7 +8,7 @@ abbrev pub invariant-candidates : goal.invariant-candidates
 invariant-candidates g l = record {
   far : l.from ≤ length l.bucket.slots;
   same : kept_of (g.V.Vault.view_of l.vault) ≡ kept_of (g.V.Vault.view_of l.fn.vault);
-  later : (g.V.Vault.view_of l.fn.vault).faults ≤ (g.V.Vault.view_of l.vault).faults;
+  later : (g.V.Vault.view_of l.vault).faults ≡ (g.V.Vault.view_of l.fn.vault).faults;
   passed : Tells (bytes_in (kept_of (g.V.Vault.view_of l.fn.vault)) l.f.0) (λ file. (e : ℕ) → e < l.from → is_slot_of file l.key (slot_after l.bucket.slots l.hash e) ≡ false);
 }
 

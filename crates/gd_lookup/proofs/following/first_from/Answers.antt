@@ -88,7 +88,7 @@ runs-preserved g c =
     let none : passing_from (is_full_at c.read_block.new.buf) h.elems 0 ≡ [] = rw c.in_default.is at c.in_ok-first.ensures.none in
     record {
       same = search rules;
-      later = omega (arith, old.later, c.in_ok-at.ensures.later, c.in_ok-read_block.ensures.later, c.in_ok-first.ensures.later);
+      later = omega (arith, old.later, c.in_ok-at.ensures.answered, c.in_ok-read_block.ensures.answered, c.in_ok-first.ensures.answered);
       size = c.read_block.auto.buf ∙ old.size;
       begins =
           λ file told.

@@ -31,7 +31,7 @@ runs-preserved g c =
     let within : c.runs.i < entries_of c.args.header.now = omega (arith, test, range.0) in
     record {
       same = search rules;
-      later = omega (arith, old.later, c.in_ok-share.ensures.later);
+      later = omega (arith, old.later, c.in_ok-share.ensures.answered);
       far = omega (arith, within, range.2, most);
       few = omega (arith, few, some, fits, c.from-total.ensures);
       counted =
