@@ -30,6 +30,7 @@ impl Store {
         requires fits { Fits (V.view_of vault.old) self.old }
         requires whole { self.old.broken ≡ false }
         ensures asks { OnlyAsks (V.view_of vault.old) (V.view_of vault.new) }
+        ensures answered { IfOk result (λ _. (V.view_of vault.new).faults ≡ (V.view_of vault.old).faults) }
         ensures same { self.new ≡ self.old }
         ensures hash { IfOk result (λ l. l.hash ≡ hash_of key.now) }
         ensures slots { IfOk result (λ l. length l.bucket.slots ≡ self.old.header.elems) }

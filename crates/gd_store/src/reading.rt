@@ -20,6 +20,7 @@ impl Store {
         requires file { HasFile (V.view_of vault.old) self.old.file }
         requires fits { Fits (V.view_of vault.old) self.old }
         ensures asks { OnlyAsks (V.view_of vault.old) (V.view_of vault.new) }
+        ensures answered { IfOk result (λ _. (V.view_of vault.new).faults ≡ (V.view_of vault.old).faults) }
         ensures same { SameButCached self.old self.new }
         ensures value { IfOk result (λ v. OnFile (V.view_of vault.old) self.old.file (λ file. value_of (records file) key.now ≡ Some v)) }
         ensures broken { self.old.broken ≡ true → RefusedAtOnce DbError.NeedRecovery result self.old self.new (V.view_of vault.old) (V.view_of vault.new) }
@@ -42,6 +43,7 @@ impl Store {
         requires file { HasFile (V.view_of vault.old) self.old.file }
         requires fits { Fits (V.view_of vault.old) self.old }
         ensures asks { OnlyAsks (V.view_of vault.old) (V.view_of vault.new) }
+        ensures answered { IfOk result (λ _. (V.view_of vault.new).faults ≡ (V.view_of vault.old).faults) }
         ensures same { SameButCached self.old self.new }
         ensures answer { IfOk result (λ b. OnFile (V.view_of vault.old) self.old.file (λ file. b ≡ is_some (value_of (records file) key.now))) }
         ensures broken { self.old.broken ≡ true → RefusedAtOnce DbError.NeedRecovery result self.old self.new (V.view_of vault.old) (V.view_of vault.new) }
@@ -60,6 +62,7 @@ impl Store {
         requires file { HasFile (V.view_of vault.old) self.old.file }
         requires fits { Fits (V.view_of vault.old) self.old }
         ensures asks { OnlyAsks (V.view_of vault.old) (V.view_of vault.new) }
+        ensures answered { IfOk result (λ _. (V.view_of vault.new).faults ≡ (V.view_of vault.old).faults) }
         ensures same { SameButCached self.old self.new }
         ensures first { IfOk result (λ k. OnFile (V.view_of vault.old) self.old.file (λ file. first_of (records file) ≡ Some k)) }
         ensures broken { self.old.broken ≡ true → RefusedAtOnce DbError.NeedRecovery result self.old self.new (V.view_of vault.old) (V.view_of vault.new) }
@@ -81,6 +84,7 @@ impl Store {
         requires file { HasFile (V.view_of vault.old) self.old.file }
         requires fits { Fits (V.view_of vault.old) self.old }
         ensures asks { OnlyAsks (V.view_of vault.old) (V.view_of vault.new) }
+        ensures answered { IfOk result (λ _. (V.view_of vault.new).faults ≡ (V.view_of vault.old).faults) }
         ensures same { SameButCached self.old self.new }
         ensures next { IfOk result (λ k. OnFile (V.view_of vault.old) self.old.file (λ file. successor key.now (records file) ≡ Successor.Key k)) }
         ensures broken { self.old.broken ≡ true → RefusedAtOnce DbError.NeedRecovery result self.old self.new (V.view_of vault.old) (V.view_of vault.new) }
@@ -110,6 +114,7 @@ impl Store {
         requires file { HasFile (V.view_of vault.old) self.old.file }
         requires fits { Fits (V.view_of vault.old) self.old }
         ensures asks { OnlyAsks (V.view_of vault.old) (V.view_of vault.new) }
+        ensures answered { IfOk result (λ _. (V.view_of vault.new).faults ≡ (V.view_of vault.old).faults) }
         ensures same { SameButCached self.old self.new }
         ensures count { IfOk result (λ n. OnFile (V.view_of vault.old) self.old.file (λ file. n ≡ length (records file))) }
         ensures broken { self.old.broken ≡ true → RefusedAtOnce DbError.NeedRecovery result self.old self.new (V.view_of vault.old) (V.view_of vault.new) }
