@@ -10,6 +10,7 @@ ghost use Rattle.gd_format.specs.File.{entry_at, records};
 ghost use Rattle.gd_format.specs.Slots.{is_full};
 ghost use Rattle.gd_layout.specs.Fits.{FitsFields};
 ghost use Rattle.gd_vault.specs.Views.{HasFile, OnlyAsks};
+ghost use Rattle.gd_readable.specs.Asks.{Counts};
 ghost use Rattle.gd_lookup.specs.Finding.{IsCandidateAt, IsKeyAbsent, IsKeySlot, OfKey};
 ghost use Rattle.gd_lookup.specs.Open.{AtFile, OfFile};
 ghost use Rattle.gd_lookup.specs.Order.{first_of, successor};
@@ -40,6 +41,7 @@ pub fn bucket_address<V: Vault>(
     requires hash { hash < 2 ^ 31 }
     ensures asks { OnlyAsks (V.view_of vault.old) (V.view_of vault.new) }
     ensures answered { IfOk result (λ _. (V.view_of vault.new).faults ≡ (V.view_of vault.old).faults) }
+    ensures counted { IfErr result (λ e. Counts e (V.view_of vault.old).faults (V.view_of vault.new).faults) }
     ensures address { IfOk result (λ at. AtFile (V.view_of vault.old) f.0 (λ file. at ≡ natural (entry_at file header.now (hash / 2 ^ (31 - header.now.dir_bits))))) }
     ensures place { IfOk result (λ at. AtFile (V.view_of vault.old) f.0 (λ file. IsBucketPlace file header.now at)) }
     ensures refused { IfErr result (λ e. RefusesRead e (V.view_of vault.old) (V.view_of vault.new)) }
@@ -64,6 +66,7 @@ pub fn bucket_at<V: Vault>(
     requires place { AtFile (V.view_of vault.old) f.0 (λ file. IsBucketPlace file header.now at) }
     ensures asks { OnlyAsks (V.view_of vault.old) (V.view_of vault.new) }
     ensures answered { IfOk result (λ _. (V.view_of vault.new).faults ≡ (V.view_of vault.old).faults) }
+    ensures counted { IfErr result (λ e. Counts e (V.view_of vault.old).faults (V.view_of vault.new).faults) }
     ensures slots { IfOk result (λ b. length b.slots ≡ header.now.elems) }
     ensures some { IfOk result (λ b. 0 < length b.slots) }
     ensures bucket { IfOk result (λ b. AtFile (V.view_of vault.old) f.0 (λ file. b ≡ spec.bucket_at (bytes_at file at header.now.block) header.now.elems)) }
@@ -89,6 +92,7 @@ pub fn find_key<V: Vault>(
     requires bucket { OfKey (V.view_of vault.old) f.0 key.now bucket.now.slots }
     ensures asks { OnlyAsks (V.view_of vault.old) (V.view_of vault.new) }
     ensures answered { IfOk result (λ _. (V.view_of vault.new).faults ≡ (V.view_of vault.old).faults) }
+    ensures counted { IfErr result (λ e. Counts e (V.view_of vault.old).faults (V.view_of vault.new).faults) }
     ensures candidate { IfOk result (λ r. IfSome r (λ p. IsCandidateAt bucket.now.slots hash key.now p)) }
     ensures present { IfOk result (λ r. IfSome r (λ p. AtFile (V.view_of vault.old) f.0 (λ file. IsKeySlot file key.now (get_or bucket.now.slots p Slot.Empty)))) }
     ensures absent { IfOk result (λ r. IfNone r (AtFile (V.view_of vault.old) f.0 (λ file. IsKeyAbsent file key.now bucket.now.slots))) }
@@ -112,6 +116,7 @@ pub fn read_key<V: Vault>(
     requires inside { AtFile (V.view_of vault.old) f.0 (λ file. LiesIn (length file) slot.now) }
     ensures asks { OnlyAsks (V.view_of vault.old) (V.view_of vault.new) }
     ensures answered { IfOk result (λ _. (V.view_of vault.new).faults ≡ (V.view_of vault.old).faults) }
+    ensures counted { IfErr result (λ e. Counts e (V.view_of vault.old).faults (V.view_of vault.new).faults) }
     ensures key { IfOk result (λ k. AtFile (V.view_of vault.old) f.0 (λ file. k ≡ key_in file slot.now)) }
     ensures refused { IfErr result (λ e. RefusesRead e (V.view_of vault.old) (V.view_of vault.new)) }
 {
@@ -134,6 +139,7 @@ pub fn read_value<V: Vault>(
     requires inside { AtFile (V.view_of vault.old) f.0 (λ file. LiesIn (length file) slot.now) }
     ensures asks { OnlyAsks (V.view_of vault.old) (V.view_of vault.new) }
     ensures answered { IfOk result (λ _. (V.view_of vault.new).faults ≡ (V.view_of vault.old).faults) }
+    ensures counted { IfErr result (λ e. Counts e (V.view_of vault.old).faults (V.view_of vault.new).faults) }
     ensures value { IfOk result (λ v. AtFile (V.view_of vault.old) f.0 (λ file. v ≡ value_in file slot.now)) }
     ensures refused { IfErr result (λ e. RefusesRead e (V.view_of vault.old) (V.view_of vault.new)) }
 {
@@ -148,6 +154,7 @@ pub fn count<V: Vault>(vault: &mut V, f: FileId, header: &Header) -> Result<u64,
     requires readable { OfFile (V.view_of vault.old) f.0 header.now }
     ensures asks { OnlyAsks (V.view_of vault.old) (V.view_of vault.new) }
     ensures answered { IfOk result (λ _. (V.view_of vault.new).faults ≡ (V.view_of vault.old).faults) }
+    ensures counted { IfErr result (λ e. Counts e (V.view_of vault.old).faults (V.view_of vault.new).faults) }
     ensures count { IfOk result (λ n. AtFile (V.view_of vault.old) f.0 (λ file. n ≡ length (records file))) }
     ensures refused { IfErr result (λ e. RefusesRead e (V.view_of vault.old) (V.view_of vault.new)) }
 {
@@ -169,6 +176,7 @@ pub fn first_key<V: Vault>(
     requires size { length buf.old ≡ header.now.block }
     ensures asks { OnlyAsks (V.view_of vault.old) (V.view_of vault.new) }
     ensures answered { IfOk result (λ _. (V.view_of vault.new).faults ≡ (V.view_of vault.old).faults) }
+    ensures counted { IfErr result (λ e. Counts e (V.view_of vault.old).faults (V.view_of vault.new).faults) }
     ensures first { IfOk result (λ r. AtFile (V.view_of vault.old) f.0 (λ file. r ≡ first_of (records file))) }
     ensures refused { IfErr result (λ e. RefusesRead e (V.view_of vault.old) (V.view_of vault.new)) }
 {
@@ -191,6 +199,7 @@ pub fn key_after<V: Vault>(
     requires size { length buf.old ≡ header.now.block }
     ensures asks { OnlyAsks (V.view_of vault.old) (V.view_of vault.new) }
     ensures answered { IfOk result (λ _. (V.view_of vault.new).faults ≡ (V.view_of vault.old).faults) }
+    ensures counted { IfErr result (λ e. Counts e (V.view_of vault.old).faults (V.view_of vault.new).faults) }
     ensures next { IfOk result (λ r. AtFile (V.view_of vault.old) f.0 (λ file. r ≡ successor key.now (records file))) }
     ensures refused { IfErr result (λ e. RefusesRead e (V.view_of vault.old) (V.view_of vault.new)) }
 {

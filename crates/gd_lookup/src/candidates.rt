@@ -7,7 +7,7 @@ ghost use Rattle.gd_format.specs.Hash.{hash_of};
 ghost use Rattle.gd_map_laws.specs.Find.{is_slot_of};
 ghost use Rattle.gd_bucket.specs.Probing.{is_candidate};
 ghost use Rattle.gd_layout.specs.Fits.{FitsFields};
-ghost use Rattle.gd_readable.specs.Asks.{kept_of, bytes_in, is_there, Tells, IsCause, IsIn};
+ghost use Rattle.gd_readable.specs.Asks.{Counts, kept_of, bytes_in, is_there, Tells, IsCause, IsIn};
 ghost use Rattle.gd_lookup.specs.Finding.{IsCandidateAt, IsKeyAbsent, IsKeyBucket, IsKeySlot};
 ghost use Rattle.gd_lookup.specs.Reading.{IsRefused, LiesIn};
 
@@ -75,6 +75,7 @@ fn is_own<V: Vault>(
     ensures same { kept_of (V.view_of vault.new) ≡ kept_of (V.view_of vault.old) }
     ensures later { (V.view_of vault.old).faults ≤ (V.view_of vault.new).faults }
     ensures answered { IfOk result (λ _. (V.view_of vault.new).faults ≡ (V.view_of vault.old).faults) }
+    ensures counted { IfErr result (λ e. Counts e (V.view_of vault.old).faults (V.view_of vault.new).faults) }
     ensures own { IfOk result (λ r. Tells (bytes_in (kept_of (V.view_of vault.old)) f.0) (λ file. r ≡ is_slot_of file key.now slot.now)) }
     ensures refused { IfErr result (λ e. IsRefused e (kept_of (V.view_of vault.old)) f.0 (V.view_of vault.old).faults (V.view_of vault.new).faults) }
 {
@@ -120,6 +121,7 @@ pub fn find_in<V: Vault>(
     ensures same { kept_of (V.view_of vault.new) ≡ kept_of (V.view_of vault.old) }
     ensures later { (V.view_of vault.old).faults ≤ (V.view_of vault.new).faults }
     ensures answered { IfOk result (λ _. (V.view_of vault.new).faults ≡ (V.view_of vault.old).faults) }
+    ensures counted { IfErr result (λ e. Counts e (V.view_of vault.old).faults (V.view_of vault.new).faults) }
     ensures candidate { IfOk result (λ r. IfSome r (λ p. IsCandidateAt bucket.now.slots hash key.now p)) }
     ensures present { IfOk result (λ r. IfSome r (λ p. Tells (bytes_in (kept_of (V.view_of vault.old)) f.0) (λ file. IsKeySlot file key.now (get_or bucket.now.slots p Slot.Empty)))) }
     ensures absent { IfOk result (λ r. IfNone r (Tells (bytes_in (kept_of (V.view_of vault.old)) f.0) (λ file. IsKeyAbsent file key.now bucket.now.slots))) }

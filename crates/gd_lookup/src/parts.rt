@@ -8,7 +8,7 @@ ghost use Rattle.gd_format.specs.HeaderFault.{natural};
 ghost use Rattle.gd_format.specs.Headers.{IsHeader};
 ghost use Rattle.gd_format.specs.Slots.{is_full};
 ghost use Rattle.gd_layout.specs.Fits.{FitsFields};
-ghost use Rattle.gd_readable.specs.Asks.{kept_of, bytes_in, is_there, Tells, IsCause, IsIn};
+ghost use Rattle.gd_readable.specs.Asks.{Counts, kept_of, bytes_in, is_there, Tells, IsCause, IsIn};
 ghost use Rattle.gd_readable.specs.Standing.{place_of};
 ghost use Rattle.gd_lookup.specs.Open.{IsOpen};
 ghost use Rattle.gd_lookup.specs.Reading.{IsBucketPlace, IsRefused, LiesIn, key_in, value_in};
@@ -45,6 +45,7 @@ pub fn entry_address<V: Vault>(
     ensures same { kept_of (V.view_of vault.new) ≡ kept_of (V.view_of vault.old) }
     ensures later { (V.view_of vault.old).faults ≤ (V.view_of vault.new).faults }
     ensures answered { IfOk result (λ _. (V.view_of vault.new).faults ≡ (V.view_of vault.old).faults) }
+    ensures counted { IfErr result (λ e. Counts e (V.view_of vault.old).faults (V.view_of vault.new).faults) }
     ensures address { IfOk result (λ at. Tells (bytes_in (kept_of (V.view_of vault.old)) f.0) (λ file. at ≡ natural (entry_at file header.now i))) }
     ensures refused { IfErr result (λ e. IsRefused e (kept_of (V.view_of vault.old)) f.0 (V.view_of vault.old).faults (V.view_of vault.new).faults) }
 {
@@ -75,6 +76,7 @@ pub fn read_block<V: Vault>(
     ensures same { kept_of (V.view_of vault.new) ≡ kept_of (V.view_of vault.old) }
     ensures later { (V.view_of vault.old).faults ≤ (V.view_of vault.new).faults }
     ensures answered { IfOk result (λ _. (V.view_of vault.new).faults ≡ (V.view_of vault.old).faults) }
+    ensures counted { IfErr result (λ e. Counts e (V.view_of vault.old).faults (V.view_of vault.new).faults) }
     ensures block { IfOk result (λ _. Tells (bytes_in (kept_of (V.view_of vault.old)) f.0) (λ file. buf.new ≡ bytes_at file at header.now.block)) }
     ensures refused { IfErr result (λ e. IsRefused e (kept_of (V.view_of vault.old)) f.0 (V.view_of vault.old).faults (V.view_of vault.new).faults) }
 {
@@ -103,6 +105,7 @@ pub fn bucket_in<V: Vault>(
     ensures same { kept_of (V.view_of vault.new) ≡ kept_of (V.view_of vault.old) }
     ensures later { (V.view_of vault.old).faults ≤ (V.view_of vault.new).faults }
     ensures answered { IfOk result (λ _. (V.view_of vault.new).faults ≡ (V.view_of vault.old).faults) }
+    ensures counted { IfErr result (λ e. Counts e (V.view_of vault.old).faults (V.view_of vault.new).faults) }
     ensures slots { IfOk result (λ b. length b.slots ≡ header.now.elems) }
     ensures some { IfOk result (λ b. 0 < length b.slots) }
     ensures bucket { IfOk result (λ b. Tells (bytes_in (kept_of (V.view_of vault.old)) f.0) (λ file. b ≡ spec.bucket_at (bytes_at file at header.now.block) header.now.elems)) }
@@ -147,6 +150,7 @@ pub fn bytes_from<V: Vault>(
     ensures same { kept_of (V.view_of vault.new) ≡ kept_of (V.view_of vault.old) }
     ensures later { (V.view_of vault.old).faults ≤ (V.view_of vault.new).faults }
     ensures answered { IfOk result (λ _. (V.view_of vault.new).faults ≡ (V.view_of vault.old).faults) }
+    ensures counted { IfErr result (λ e. Counts e (V.view_of vault.old).faults (V.view_of vault.new).faults) }
     ensures whole { IfOk result (λ r. Tells (bytes_in (kept_of (V.view_of vault.old)) f.0) (λ file. IsIn file at size → IsSome r)) }
     ensures bytes { IfOk result (λ r. IfSome r (λ d. Tells (bytes_in (kept_of (V.view_of vault.old)) f.0) (λ file. IsIn file at size → d ≡ bytes_at file at size))) }
     ensures refused { IfErr result (λ e. IsRefused e (kept_of (V.view_of vault.old)) f.0 (V.view_of vault.old).faults (V.view_of vault.new).faults) }
@@ -176,6 +180,7 @@ pub fn part_of_record<V: Vault>(
     ensures same { kept_of (V.view_of vault.new) ≡ kept_of (V.view_of vault.old) }
     ensures later { (V.view_of vault.old).faults ≤ (V.view_of vault.new).faults }
     ensures answered { IfOk result (λ _. (V.view_of vault.new).faults ≡ (V.view_of vault.old).faults) }
+    ensures counted { IfErr result (λ e. Counts e (V.view_of vault.old).faults (V.view_of vault.new).faults) }
     ensures bytes { IfOk result (λ d. Tells (bytes_in (kept_of (V.view_of vault.old)) f.0) (λ file. d ≡ bytes_at file from size)) }
     ensures refused { IfErr result (λ e. IsRefused e (kept_of (V.view_of vault.old)) f.0 (V.view_of vault.old).faults (V.view_of vault.new).faults) }
 {
@@ -200,6 +205,7 @@ pub fn key_bytes<V: Vault>(
     ensures same { kept_of (V.view_of vault.new) ≡ kept_of (V.view_of vault.old) }
     ensures later { (V.view_of vault.old).faults ≤ (V.view_of vault.new).faults }
     ensures answered { IfOk result (λ _. (V.view_of vault.new).faults ≡ (V.view_of vault.old).faults) }
+    ensures counted { IfErr result (λ e. Counts e (V.view_of vault.old).faults (V.view_of vault.new).faults) }
     ensures key { IfOk result (λ k. Tells (bytes_in (kept_of (V.view_of vault.old)) f.0) (λ file. k ≡ key_in file slot.now)) }
     ensures refused { IfErr result (λ e. IsRefused e (kept_of (V.view_of vault.old)) f.0 (V.view_of vault.old).faults (V.view_of vault.new).faults) }
 {
@@ -228,6 +234,7 @@ pub fn value_bytes<V: Vault>(
     ensures same { kept_of (V.view_of vault.new) ≡ kept_of (V.view_of vault.old) }
     ensures later { (V.view_of vault.old).faults ≤ (V.view_of vault.new).faults }
     ensures answered { IfOk result (λ _. (V.view_of vault.new).faults ≡ (V.view_of vault.old).faults) }
+    ensures counted { IfErr result (λ e. Counts e (V.view_of vault.old).faults (V.view_of vault.new).faults) }
     ensures value { IfOk result (λ v. Tells (bytes_in (kept_of (V.view_of vault.old)) f.0) (λ file. v ≡ value_in file slot.now)) }
     ensures refused { IfErr result (λ e. IsRefused e (kept_of (V.view_of vault.old)) f.0 (V.view_of vault.old).faults (V.view_of vault.new).faults) }
 {

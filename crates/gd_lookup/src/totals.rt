@@ -5,7 +5,7 @@ ghost use Rattle.gd_format.specs.Bucket.{counts_at};
 ghost use Rattle.gd_format.specs.File.{block_of, entries_of, records, run_at};
 ghost use Rattle.gd_format.specs.HeaderFault.{natural};
 ghost use Rattle.gd_format.specs.Headers.{IsHeader};
-ghost use Rattle.gd_readable.specs.Asks.{kept_of, bytes_in, is_there, Tells};
+ghost use Rattle.gd_readable.specs.Asks.{Counts, kept_of, bytes_in, is_there, Tells};
 ghost use Rattle.gd_lookup.specs.Counting.{have_share, run_of};
 ghost use Rattle.gd_lookup.specs.Open.{IsOpen};
 ghost use Rattle.gd_lookup.specs.Reading.{IsRefused};
@@ -56,6 +56,7 @@ fn share_at<V: Vault>(vault: &mut V, f: FileId, header: &Header, i: u64) -> Resu
     ensures same { kept_of (V.view_of vault.new) ≡ kept_of (V.view_of vault.old) }
     ensures later { (V.view_of vault.old).faults ≤ (V.view_of vault.new).faults }
     ensures answered { IfOk result (λ _. (V.view_of vault.new).faults ≡ (V.view_of vault.old).faults) }
+    ensures counted { IfErr result (λ e. Counts e (V.view_of vault.old).faults (V.view_of vault.new).faults) }
     ensures share { IfOk result (λ s. Tells (bytes_in (kept_of (V.view_of vault.old)) f.0) (λ file. (s.run ≡ run_at file header.now i) × (s.full ≡ natural (counts_at (block_of file header.now i)).full))) }
     ensures some { IfOk result (λ s. 0 < s.run) }
     ensures most { IfOk result (λ s. s.run ≤ 2 ^ 24) }
@@ -83,6 +84,7 @@ pub fn total<V: Vault>(vault: &mut V, f: FileId, header: &Header) -> Result<u64,
     ensures same { kept_of (V.view_of vault.new) ≡ kept_of (V.view_of vault.old) }
     ensures later { (V.view_of vault.old).faults ≤ (V.view_of vault.new).faults }
     ensures answered { IfOk result (λ _. (V.view_of vault.new).faults ≡ (V.view_of vault.old).faults) }
+    ensures counted { IfErr result (λ e. Counts e (V.view_of vault.old).faults (V.view_of vault.new).faults) }
     ensures total { IfOk result (λ n. Tells (bytes_in (kept_of (V.view_of vault.old)) f.0) (λ file. n ≡ length (records file))) }
     ensures refused { IfErr result (λ e. IsRefused e (kept_of (V.view_of vault.old)) f.0 (V.view_of vault.old).faults (V.view_of vault.new).faults) }
 {

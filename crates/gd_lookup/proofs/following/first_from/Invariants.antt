@@ -1,4 +1,4 @@
-use Rattle.std.proofs.Common.{◌≡◌, ◌-◌, ◌≤◌, length}
+use Rattle.std.proofs.Common.{◌≡◌, ◌-◌, length}
 use Rattle.gd_format.specs.File.{entries_of}
 use Rattle.gd_readable.specs.Asks.{kept_of, bytes_in, Tells}
 use Rattle.gd_readable.specs.Left.{buckets_left}
