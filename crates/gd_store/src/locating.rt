@@ -5,6 +5,7 @@ ghost use Rattle.gd_format.specs.Hash.{hash_of};
 ghost use Rattle.gd_vault.specs.Views.{HasFile, OnlyAsks};
 ghost use Rattle.gd_lookup.specs.Finding.{IsCandidateAt};
 ghost use Rattle.gd_lookup.specs.Reading.{RefusesRead};
+ghost use Rattle.gd_readable.specs.Asks.{Counts};
 ghost use Rattle.gd_store.specs.Opened.{Fits, OnFile};
 ghost use Rattle.gd_store.specs.Located.{IsFoundIn};
 
@@ -31,6 +32,7 @@ impl Store {
         requires whole { self.old.broken ≡ false }
         ensures asks { OnlyAsks (V.view_of vault.old) (V.view_of vault.new) }
         ensures answered { IfOk result (λ _. (V.view_of vault.new).faults ≡ (V.view_of vault.old).faults) }
+        ensures counted { IfErr result (λ e. Counts e (V.view_of vault.old).faults (V.view_of vault.new).faults) }
         ensures same { self.new ≡ self.old }
         ensures hash { IfOk result (λ l. l.hash ≡ hash_of key.now) }
         ensures slots { IfOk result (λ l. length l.bucket.slots ≡ self.old.header.elems) }

@@ -5,6 +5,7 @@ ghost use Rattle.gd_format.specs.File.{records};
 ghost use Rattle.gd_vault.specs.Views.{HasFile, OnlyAsks};
 ghost use Rattle.gd_lookup.specs.Order.{first_of, successor};
 ghost use Rattle.gd_lookup.specs.Reading.{RefusesRead};
+ghost use Rattle.gd_readable.specs.Asks.{Counts};
 ghost use Rattle.gd_store.specs.Opened.{Fits, OnFile, SameButCached};
 ghost use Rattle.gd_store.specs.Replies.{value_of, absent_due, first_due, next_due, RefusedAsking, RefusedAtOnce};
 
@@ -21,6 +22,7 @@ impl Store {
         requires fits { Fits (V.view_of vault.old) self.old }
         ensures asks { OnlyAsks (V.view_of vault.old) (V.view_of vault.new) }
         ensures answered { IfOk result (λ _. (V.view_of vault.new).faults ≡ (V.view_of vault.old).faults) }
+        ensures counted { IfErr result (λ e. Counts e (V.view_of vault.old).faults (V.view_of vault.new).faults) }
         ensures same { SameButCached self.old self.new }
         ensures value { IfOk result (λ v. OnFile (V.view_of vault.old) self.old.file (λ file. value_of (records file) key.now ≡ Some v)) }
         ensures broken { self.old.broken ≡ true → RefusedAtOnce DbError.NeedRecovery result self.old self.new (V.view_of vault.old) (V.view_of vault.new) }
@@ -44,6 +46,7 @@ impl Store {
         requires fits { Fits (V.view_of vault.old) self.old }
         ensures asks { OnlyAsks (V.view_of vault.old) (V.view_of vault.new) }
         ensures answered { IfOk result (λ _. (V.view_of vault.new).faults ≡ (V.view_of vault.old).faults) }
+        ensures counted { IfErr result (λ e. Counts e (V.view_of vault.old).faults (V.view_of vault.new).faults) }
         ensures same { SameButCached self.old self.new }
         ensures answer { IfOk result (λ b. OnFile (V.view_of vault.old) self.old.file (λ file. b ≡ is_some (value_of (records file) key.now))) }
         ensures broken { self.old.broken ≡ true → RefusedAtOnce DbError.NeedRecovery result self.old self.new (V.view_of vault.old) (V.view_of vault.new) }
@@ -63,6 +66,7 @@ impl Store {
         requires fits { Fits (V.view_of vault.old) self.old }
         ensures asks { OnlyAsks (V.view_of vault.old) (V.view_of vault.new) }
         ensures answered { IfOk result (λ _. (V.view_of vault.new).faults ≡ (V.view_of vault.old).faults) }
+        ensures counted { IfErr result (λ e. Counts e (V.view_of vault.old).faults (V.view_of vault.new).faults) }
         ensures same { SameButCached self.old self.new }
         ensures first { IfOk result (λ k. OnFile (V.view_of vault.old) self.old.file (λ file. first_of (records file) ≡ Some k)) }
         ensures broken { self.old.broken ≡ true → RefusedAtOnce DbError.NeedRecovery result self.old self.new (V.view_of vault.old) (V.view_of vault.new) }
@@ -85,6 +89,7 @@ impl Store {
         requires fits { Fits (V.view_of vault.old) self.old }
         ensures asks { OnlyAsks (V.view_of vault.old) (V.view_of vault.new) }
         ensures answered { IfOk result (λ _. (V.view_of vault.new).faults ≡ (V.view_of vault.old).faults) }
+        ensures counted { IfErr result (λ e. Counts e (V.view_of vault.old).faults (V.view_of vault.new).faults) }
         ensures same { SameButCached self.old self.new }
         ensures next { IfOk result (λ k. OnFile (V.view_of vault.old) self.old.file (λ file. successor key.now (records file) ≡ Successor.Key k)) }
         ensures broken { self.old.broken ≡ true → RefusedAtOnce DbError.NeedRecovery result self.old self.new (V.view_of vault.old) (V.view_of vault.new) }
@@ -115,6 +120,7 @@ impl Store {
         requires fits { Fits (V.view_of vault.old) self.old }
         ensures asks { OnlyAsks (V.view_of vault.old) (V.view_of vault.new) }
         ensures answered { IfOk result (λ _. (V.view_of vault.new).faults ≡ (V.view_of vault.old).faults) }
+        ensures counted { IfErr result (λ e. Counts e (V.view_of vault.old).faults (V.view_of vault.new).faults) }
         ensures same { SameButCached self.old self.new }
         ensures count { IfOk result (λ n. OnFile (V.view_of vault.old) self.old.file (λ file. n ≡ length (records file))) }
         ensures broken { self.old.broken ≡ true → RefusedAtOnce DbError.NeedRecovery result self.old self.new (V.view_of vault.old) (V.view_of vault.new) }
