@@ -143,6 +143,7 @@ impl Cache {
         ensures frame { OnlyWrites f.0 (V.view_of vault.old) (V.view_of vault.new) }
         ensures file { HasFile (V.view_of vault.new) f.0 }
     {
+        // The bucket that was kept is no longer what the file has.
         forget(&mut self.kept, at);
         spell(bucket, &mut self.buf);
         vault.write_at(f, at, &self.buf)

@@ -6,8 +6,6 @@ mod cache;
 mod errors;
 mod kept;
 #[cfg(test)]
-mod small_vault;
-#[cfg(test)]
 mod tests;
 
 pub use crate::cache::Cache;

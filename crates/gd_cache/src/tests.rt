@@ -2,11 +2,11 @@ ghost use Rattle.std.specs.Prelude.{◌≡◌, length, IfOk};
 ghost use Rattle.gd_memvault.specs.Memory.{memory_view};
 ghost use Rattle.gd_vault.specs.Views.{HasFile};
 
-use crate::small_vault::SmallVault;
 use crate::{Cache, CacheError};
 use gd_base::{Name, OutOfMemory};
 use gd_layout::Bucket;
 use gd_memvault::MemVault;
+use gd_testvault::SmallVault;
 use gd_vault::{FileId, Mode, Vault};
 use std::alloc::Global;
 use std::marker::Model;
@@ -80,12 +80,7 @@ fn bucket_of(alloc: Global, bits: u32) -> Result<Bucket, OutOfMemory>
 impl Trial {
     fn new(rt: &impl Abort, alloc: Global, size: u32) -> Result<Trial, Fail> {
         let file = four_blocks(rt);
-        let vault = SmallVault {
-            bytes: file.to_vec(alloc)?,
-            calls_left: 100,
-            faults: 0,
-            written: 0,
-        };
+        let vault = SmallVault::new(file.to_vec(alloc)?, 100);
         let cache = Cache::new(alloc, size.max(1), 512)?;
         Ok(Trial {
             alloc,

@@ -10,24 +10,24 @@ use Rattle.gd_format.specs.Field.{u32_at, i32_at}
 use Rattle.gd_format.proofs.Firsts.{and-true}
 use Rattle.gd_file_laws.specs.Sizes.{IsHeaderIn}
 
-none_holds : {E : Type 0} (ts : List (Bool × E)) → first_that_holds ts ≡ None → AllByRecursion (λ t. t.0 ≡ false) ts
+pub none_holds : {E : Type 0} (ts : List (Bool × E)) → first_that_holds ts ≡ None → AllByRecursion (λ t. t.0 ≡ false) ts
 none_holds [] h = tt
 none_holds ((true, e) ∷ ts) h = absurd cc
 none_holds ((false, e) ∷ ts) h = (refl, none_holds ts h)
 
-not_false : (b : Bool) → not b ≡ false → b ≡ true
+pub not_false : (b : Bool) → not b ≡ false → b ≡ true
 not_false true h = refl
 not_false false h = absurd cc
 
-within : (z : ℤ) (low high : ℕ) → is_within z low high ≡ true → (low ≤ natural z) × (natural z ≤ high)
+pub within : (z : ℤ) (low high : ℕ) → is_within z low high ≡ true → (low ≤ natural z) × (natural z ≤ high)
 within (pos n) low high h = let both = and-true _ _ h in (leb-true low n both.0, leb-true n high both.1)
 within (negsuc n) low high h = absurd cc
 
-number : (z : ℤ) (n : ℕ) → is_number z n ≡ true → natural z ≡ n
+pub number : (z : ℤ) (n : ℕ) → is_number z n ≡ true → natural z ≡ n
 number (pos m) n h = (Decides-eqb m n).0 h
 number (negsuc m) n h = absurd cc
 
-slots_fit : (block elems : ℕ) → 512 ≤ block → elems ≡ (block - 112) / 24 → 112 + 24 * elems ≤ block
+pub slots_fit : (block elems : ℕ) → 512 ≤ block → elems ≡ (block - 112) / 24 → 112 + 24 * elems ≤ block
 slots_fit block elems h e = omega (arith, e)
 
 dir_fits : (dir size len : ℕ) → size ≤ len → dir ≤ len - size → dir + size ≤ len

@@ -91,7 +91,7 @@ module _ (file : List ℕ) (h : Header) where
       record { s = w.0; low = w.1; high = w.2; judged = starts w.0 w.3 }
 
   module _ (k : ℕ) (c : Covered k) where
-    entry_is : entry_at file h k ≡ entry_at file h c.s
+    pub entry_is : entry_at file h k ≡ entry_at file h c.s
     entry_is =
         let low = c.low in
         let high = c.high in
@@ -99,7 +99,7 @@ module _ (file : List ℕ) (h : Header) where
         let e = c.judged.same (k - c.s) (omega arith) in
         rw at at e
 
-    block_is : block_of file h k ≡ block_of file h c.s
+    pub block_is : block_of file h k ≡ block_of file h c.s
     unfolding block_of
     block_is = rw entry_is refl
 

@@ -13,6 +13,7 @@ pub mod SplitSpace
 pub mod Aside
 pub mod Maps
 pub mod Side
+pub mod Sized
 pub mod Sounds
 pub mod Whole
 pub mod Sums

@@ -24,7 +24,8 @@ use Rattle.gd_map_laws.proofs.Space.{grown-some}
 use Rattle.gd_map_laws.proofs.Change.{all_shape, space_shape}
 use Rattle.gd_map_laws.proofs.Sounds.{cover_is, stack_pool}
 use Rattle.gd_map_laws.proofs.WholeSplit.{file_is}
-use Rattle.gd_map_laws.proofs.Sums.{sum_below, sum_add, sum_even, some_sum, cover_sum, held_sum, parts_in, free_sum, pool_sum}
+use Rattle.gd_map_laws.specs.Sums.{sum_below}
+use Rattle.gd_map_laws.proofs.Sums.{sum_add, sum_even, some_sum, cover_sum, held_sum, parts_in, free_sum, pool_sum}
 use Rattle.gd_map_laws.proofs.SplitSpace as splits
 use Rattle.gd_map_laws.proofs.DoubleSpace as doubles
 

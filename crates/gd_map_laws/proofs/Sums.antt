@@ -25,7 +25,7 @@ use Rattle.gd_map_laws.specs.Space.{SpaceChange, free_in, one_if, slot_has, free
 use Rattle.gd_map_laws.specs.Change.{IsSoundFile, place_of}
 use Rattle.gd_map_laws.specs.Sounds.{pool_of}
 use Rattle.gd_map_laws.specs.Whole.{ChangeWritten}
-use Rattle.gd_map_laws.specs.Sums.{slot_sizes, free_size}
+use Rattle.gd_map_laws.specs.Sums.{slot_sizes, free_size, sum_below}
 use Rattle.gd_map_laws.proofs.Lists.{count-append}
 use Rattle.gd_map_laws.proofs.Stays.{bucket_in_all}
 use Rattle.gd_map_laws.proofs.Space.{whole}
@@ -35,28 +35,19 @@ use Rattle.gd_map_laws.proofs.Whole.{file_of}
 use Rattle.gd_map_laws.proofs.FileUpdate.{block_shape}
 use Rattle.gd_format.specs.Field.{bytes_at}
 
--- the sum over the numbers below n
-pub sum_below : (ℕ → ℕ) → ℕ → ℕ
-sum_below f zero = 0
-sum_below f (suc n) = sum_below f n + f n
-
 sum_zero : (n : ℕ) → sum_below (λ b. 0) n ≡ 0
-unfolding sum_below
 sum_zero zero = refl
 sum_zero (suc n) = let ih = sum_zero n in omega (arith, ih)
 
 pub sum_add : (f g : ℕ → ℕ) (n : ℕ) → sum_below (λ b. f b + g b) n ≡ sum_below f n + sum_below g n
-unfolding sum_below
 sum_add f g zero = refl
 sum_add f g (suc n) = let ih = sum_add f g n in omega (arith, ih)
 
 pub sum_even : (f g : ℕ → ℕ) (n : ℕ) → ((b : ℕ) → f b ≡ g b) → sum_below f n ≡ sum_below g n
-unfolding sum_below
 sum_even f g zero e = refl
 sum_even f g (suc n) e = let ih = sum_even f g n e in let here = e n in omega (arith, ih, here)
 
 sum_most : (f : ℕ → ℕ) (n : ℕ) → ((b : ℕ) → f b ≤ 1) → sum_below f n ≤ n
-unfolding sum_below
 sum_most f zero le = omega arith
 sum_most f (suc n) le = let ih = sum_most f n le in let here = le n in omega (arith, ih, here)
 
@@ -84,12 +75,10 @@ within : (at size b : ℕ) → at ≤ b → b < at + size → one_if (has_byte (
 within at size b low high = rw (has_in at size b low high) refl
 
 low_part : (at size n : ℕ) → n ≤ at → sum_below (λ b. one_if (has_byte (extent at size) b)) n ≡ 0
-unfolding sum_below
 low_part at size zero le = refl
 low_part at size (suc n) le = let ih = low_part at size n (omega arith) in let z = before at size n (omega arith) in omega (arith, ih, z)
 
 mid_part : (at size k : ℕ) → k ≤ size → sum_below (λ b. one_if (has_byte (extent at size) b)) (at + k) ≡ k
-unfolding sum_below
 mid_part at size zero le = let e : at + 0 ≡ at = omega arith in rw e (low_part at size at (omega arith))
 mid_part at size (suc k) le =
     let ih = mid_part at size k (omega arith) in
@@ -98,7 +87,6 @@ mid_part at size (suc k) le =
     rw e (omega (arith, ih, one))
 
 high_part : (at size m : ℕ) → sum_below (λ b. one_if (has_byte (extent at size) b)) (at + size + m) ≡ size
-unfolding sum_below
 high_part at size zero = let e : at + size + 0 ≡ at + size = omega arith in rw e (mid_part at size size (omega arith))
 high_part at size (suc m) =
     let ih = high_part at size m in

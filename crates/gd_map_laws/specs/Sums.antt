@@ -1,5 +1,5 @@
 -- How many bytes are in extents, and how many are lost.
-use Rattle.std.specs.Prelude.{◌≡◌, ℕ, ◌+◌, ◌-◌, ◌≤◌, List, [], ◌∷◌}
+use Rattle.std.specs.Prelude.{◌≡◌, ℕ, zero, suc, ◌+◌, ◌-◌, ◌≤◌, List, [], ◌∷◌}
 use Rattle.gd_format.specs.declared.Header.{Header}
 use Rattle.gd_format.specs.declared.Slot.{Slot}
 use Rattle.gd_format.specs.declared.Slot.TheVariants.{Empty, Full}
@@ -11,6 +11,11 @@ use Rattle.gd_map_laws.specs.Lookup.{index_of}
 use Rattle.gd_map_laws.specs.Space.{free_of}
 use Rattle.gd_map_laws.specs.Sounds.{pool_of}
 use Rattle.gd_map_laws.specs.Whole.{ChangeWritten}
+
+-- the sum over the numbers below n
+abbrev pub sum_below : (ℕ → ℕ) → ℕ → ℕ
+sum_below f zero = 0
+sum_below f (suc n) = sum_below f n + f n
 
 -- the sizes of the records of slots
 abbrev pub slot_sizes : List Slot → ℕ

@@ -7,8 +7,6 @@ mod keys;
 mod reading;
 mod records;
 mod slots;
-#[cfg(test)]
-mod small_vault;
 mod stored;
 #[cfg(test)]
 mod tests;

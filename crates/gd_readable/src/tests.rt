@@ -1,6 +1,6 @@
-use crate::small_vault::SmallVault;
 use crate::{Records, Stopped, Walk, check, file_refusal, fill, readable};
 use gd_base::DbError;
+use gd_testvault::SmallVault;
 use gd_vault::FileId;
 use std::alloc::Global;
 use std::process::Abort;
@@ -135,12 +135,7 @@ fn has_records(rt: &impl Abort, alloc: Global, file: &[u8], row: &Row) {
 
 fn vault_of(rt: &impl Abort, alloc: Global, file: &[u8], reads: u64) -> Option<SmallVault> {
     match file.to_vec(alloc) {
-        Ok(bytes) => Some(SmallVault {
-            bytes,
-            reads_left: reads,
-            longest: usize::MAX,
-            faults: 0,
-        }),
+        Ok(bytes) => Some(SmallVault::new(bytes, reads)),
         Err(_) => {
             assert!(rt; false, "out of memory");
             None
@@ -163,7 +158,7 @@ fn walk_gives(rt: &impl Abort, alloc: Global, vault: &mut SmallVault, row: &Row)
             }
             let end = walk.next(vault).is_ok_and(|next| next.is_none());
             assert!(rt; end, "{}", row.name);
-            vault.reads_left = 0;
+            vault.calls_left = 0;
             let again = walk.next(vault).is_ok_and(|next| next.is_none());
             assert!(rt; again, "{}", row.name);
             assert!(rt; row.refusal.is_none(), "{}", row.name);

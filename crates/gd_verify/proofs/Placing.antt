@@ -15,7 +15,8 @@ use Rattle.gd_format.specs.Bucket.{is_from_zero}
 use Rattle.gd_format.specs.File.{are_counts_right, block_of, dir_fault, entries_of, entry_at, entry_fault, is_first, places_of, first_indexes}
 use Rattle.gd_format.proofs.Firsts.{and-true, or_else-none, unless-none}
 use Rattle.gd_verify.proofs.Lists.{bool_cases, passing_more, piece}
-use Rattle.gd_readable.proofs.Walks.{first_at_start, first_after, not_first, bucket_place, walk_covers, starts}
+use Rattle.gd_file_laws.proofs.Walk.{walk_covers, starts}
+use Rattle.gd_readable.proofs.Walks.{first_at_start, first_after, not_first, bucket_place}
 use Rattle.gd_verify.specs.Known.{IsReadBy, IsPlaced, IsPage, places_below, HasBucket}
 
 -- one entry of a page

@@ -11,8 +11,6 @@ mod held;
 mod meeting;
 #[cfg(test)]
 mod meeting_tests;
-#[cfg(test)]
-mod small_vault;
 mod sounding;
 mod stack;
 #[cfg(test)]

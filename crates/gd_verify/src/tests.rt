@@ -1,10 +1,10 @@
 ghost use Rattle.gd_format.specs.Headers.{IsHeader};
 
 use crate::free::blocks_refusal;
-use crate::small_vault::SmallVault;
 use crate::{readable, sound};
 use gd_base::DbError;
 use gd_format::Header;
+use gd_testvault::SmallVault;
 use gd_vault::FileId;
 use std::alloc::Global;
 use std::process::Abort;
@@ -55,11 +55,7 @@ fn new_file(rt: &impl Abort) -> [u8; ROOM] {
 
 fn vault_of(rt: &impl Abort, alloc: Global, file: &[u8], reads: u64) -> Option<SmallVault> {
     match file.to_vec(alloc) {
-        Ok(bytes) => Some(SmallVault {
-            bytes,
-            reads_left: reads,
-            faults: 0,
-        }),
+        Ok(bytes) => Some(SmallVault::new(bytes, reads)),
         Err(_) => {
             assert!(rt; false, "out of memory");
             None

@@ -1,23 +1,42 @@
-//! A vault of one file for tests, which tells nothing of it.
+//! A vault of one file.
 
-ghost use Rattle.std.specs.Prelude.{[]};
+ghost use Rattle.std.specs.Prelude.{◌≡◌, []};
 ghost use Rattle.gd_vault.specs.Views.{View};
 ghost use Rattle.gd_vault.specs.Views.Told.{Nothing};
 
 use gd_base::{Failed, Name};
 use gd_vault::{CreateError, FileId, Mode, Vault};
 
-/// Its file may be read, and nothing else may be done. The reads of it fail from one on, and give `longest` bytes at most.
+/// Each name stands for its file, which may be read, and written within its length; every other change fails. Its fields
+/// are open, so that a test makes its calls fail from one on, or sees what was done.
 #[derive(Drop)]
 pub struct SmallVault {
     pub bytes: Vec<u8>,
-    pub reads_left: u64,
+    /// How many more reads and writes don't fail.
+    pub calls_left: u64,
+    /// The most bytes that a read gives.
     pub longest: usize,
     pub faults: u64,
+    pub written: u64,
+}
+
+impl SmallVault {
+    /// A vault of a file with these bytes, of whose reads and writes so many don't fail.
+    pub fn new(bytes: Vec<u8>, calls_left: u64) -> SmallVault
+        ensures { result ≡ record { bytes = bytes; calls_left = calls_left; longest = usize.MAX; faults = 0; written = 0 } }
+    {
+        SmallVault {
+            bytes,
+            calls_left,
+            longest: usize::MAX,
+            faults: 0,
+            written: 0,
+        }
+    }
 }
 
 impl Vault for SmallVault {
-    ghost view_of = { λ v. record { told = Nothing; faults = v.faults; bytes_written = 0; clones = 0; reads = [] } };
+    ghost view_of = { λ v. record { told = Nothing; faults = v.faults; bytes_written = v.written; clones = 0; reads = [] } };
 
     fn faults(&self) -> u64 {
         self.faults
@@ -48,11 +67,11 @@ impl Vault for SmallVault {
     }
 
     fn read_at(&mut self, _f: FileId, at: u64, buf: &mut [u8]) -> Result<usize, Failed> {
-        if self.reads_left == 0 {
+        if self.calls_left == 0 {
             self.faults = self.faults.saturating_add(1);
             return Err(Failed);
         }
-        self.reads_left -= 1;
+        self.calls_left -= 1;
         let bytes = self.bytes.as_slice();
         if at >= bytes.len() as u64 {
             return Ok(0);
@@ -63,9 +82,17 @@ impl Vault for SmallVault {
         Ok(n)
     }
 
-    fn write_at(&mut self, _f: FileId, _at: u64, _bytes: &[u8]) -> Result<(), Failed> {
-        self.faults = self.faults.saturating_add(1);
-        Err(Failed)
+    fn write_at(&mut self, _f: FileId, at: u64, bytes: &[u8]) -> Result<(), Failed> {
+        let len = self.bytes.len();
+        if self.calls_left == 0 || at > len as u64 || bytes.len() > len - at as usize {
+            self.faults = self.faults.saturating_add(1);
+            return Err(Failed);
+        }
+        self.calls_left -= 1;
+        let at = at as usize;
+        self.bytes[at..at + bytes.len()].copy_from_slice(bytes);
+        self.written = self.written.saturating_add(bytes.len() as u64);
+        Ok(())
     }
 
     fn truncate(&mut self, _f: FileId) -> Result<(), Failed> {
