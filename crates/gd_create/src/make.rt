@@ -1,7 +1,7 @@
 //! Writing a new file.
 
 ghost use Rattle.std.specs.Prelude.{◌≡◌, ◌≤◌, ◌^◌, length, OnOk, OnErr, IfErr, []};
-ghost use Rattle.gd_base.specs.Causes.{Rose};
+ghost use Rattle.gd_base.specs.Causes.{HasCause, Rose};
 ghost use Rattle.gd_base.specs.declared.errors.DbError.TheVariants.{VaultFault};
 ghost use Rattle.gd_vault.specs.Content.{File};
 ghost use Rattle.gd_vault.specs.Effects.{written};
@@ -24,6 +24,7 @@ fn write_all<V: Vault>(vault: &mut V, f: FileId, at: u64, bytes: &[u8]) -> Resul
     ensures there { HasFile (V.view_of vault.new) f.0 }
     ensures error { IfErr result (λ e. e ≡ VaultFault) }
     ensures fault { OnErr result (Rose (V.view_of vault.old).faults (V.view_of vault.new).faults) }
+    ensures cause { HasCause (V.view_of vault.old).faults (V.view_of vault.new).faults result }
     ensures frame { OnlyWrites f.0 (V.view_of vault.old) (V.view_of vault.new) }
 {
     match vault.write_at(f, at, bytes) {
@@ -47,6 +48,7 @@ pub fn make_file<V: Vault>(
     ensures there { HasFile (V.view_of vault.new) f.0 }
     ensures error { IfErr result (λ e. e ≡ VaultFault) }
     ensures fault { OnErr result (Rose (V.view_of vault.old).faults (V.view_of vault.new).faults) }
+    ensures cause { HasCause (V.view_of vault.old).faults (V.view_of vault.new).faults result }
     ensures frame { OnlyWrites f.0 (V.view_of vault.old) (V.view_of vault.new) }
 {
     put_header(header, buf);

@@ -13,8 +13,8 @@ use Rattle.gd_format.proofs.Firsts.{and-true}
 use Rattle.gd_map_laws.specs.Space.{sum_of}
 use Rattle.gd_map_laws.proofs.Fronts.{records_count}
 use Rattle.gd_lookup.specs.Counting.{Begins, have_share, run_of}
-use Rattle.gd_lookup.specs.Open.{IsOpen}
-use Rattle.gd_lookup.proofs.Blocks.{open_dir, open_parts}
+use Rattle.gd_open.specs.Files.{IsOpen}
+use Rattle.gd_open.proofs.Blocks.{open_dir, open_header, open_parts}
 use Rattle.gd_lookup.proofs.Runs.{begins_first, step, sum_run}
 
 -- ---- the counts in the first bytes of a block
@@ -31,11 +31,11 @@ counts_in_front xs n le = rw (word_in_front xs n 0 (omega arith), word_in_front 
 
 module _ (file : List ℕ) (h : Header) (o : IsOpen file h) (i : ℕ) (lt : i < entries_of h) where
   -- those that are read alone are those of the bucket
-  pub head_counts : (head : List ℕ) (at : ℕ) → 112 ≤ h.block → at ≡ natural (entry_at file h i) → head ≡ bytes_at file at 112 → counts_at head ≡ counts_at (block_of file h i)
+  pub head_counts : (at : ℕ) → at ≡ natural (entry_at file h i) → counts_at (bytes_at file at 112) ≡ counts_at (block_of file h i)
   unfolding block_of
-  head_counts head at le place read =
-      ap counts_at read ∙ ap (λ (a : ℕ). counts_at (bytes_at file a 112)) place ∙ counts_in_front (drop (natural (entry_at file h i)) file) 112 (omega arith)
-      ∙ sym (counts_in_front (drop (natural (entry_at file h i)) file) h.block le)
+  head_counts at place =
+      ap (λ (a : ℕ). counts_at (bytes_at file a 112)) place ∙ counts_in_front (drop (natural (entry_at file h i)) file) 112 (omega arith)
+      ∙ sym (counts_in_front (drop (natural (entry_at file h i)) file) h.block (let room = (open_header file h o).slots in omega (arith, room)))
 
   number_from : (z : ℤ) (n : ℕ) → is_number z n ≡ true → is_from_zero z ≡ true
   number_from (pos m) n e = refl

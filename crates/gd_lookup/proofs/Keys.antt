@@ -32,7 +32,7 @@ use Rattle.gd_map_laws.proofs.Lookup.{index_below, lookup_exact}
 use Rattle.gd_map_laws.proofs.Maps.{by_lookup}
 use Rattle.gd_map_laws.proofs.Slots.{not_false, of_bucket}
 use Rattle.gd_lookup.specs.Finding.{IsKeyBucket, IsKeySlot, IsKeyAbsent}
-use Rattle.gd_lookup.specs.Open.{IsOpen}
+use Rattle.gd_open.specs.Files.{IsOpen}
 use Rattle.gd_lookup.specs.Reading.{LiesIn, value_in}
 
 pub read_bucket_is : (file : List ℕ) (h : Header) (key : List ℕ) (at : ℕ) (bucket : Bucket) → IsOpen file h → at ≡ natural (entry_at file h (hash_of key / 2 ^ (31 - h.dir_bits))) → bucket ≡ bucket_at (bytes_at file at h.block) h.elems → IsKeyBucket file key bucket.slots

@@ -24,9 +24,9 @@ use Rattle.gd_readable.proofs.Passing.{buckets_none, passing_end, slots_none, sl
 use Rattle.gd_readable.proofs.Walks.{fields_in, record_in}
 use Rattle.gd_lookup.specs.Counting.{behind, have_share, run_of, Begins, IsBlock}
 use Rattle.gd_lookup.specs.declared.Successor.TheVariants.{Absent}
-use Rattle.gd_lookup.specs.Open.{IsOpen}
+use Rattle.gd_open.specs.Files.{IsOpen}
 use Rattle.gd_lookup.specs.Order.{first_of, following, successor}
-use Rattle.gd_lookup.proofs.Blocks.{open_dir, open_parts}
+use Rattle.gd_open.proofs.Blocks.{open_dir, open_parts}
 use Rattle.gd_lookup.proofs.Counts.{run_is, shares}
 use Rattle.gd_lookup.proofs.Runs.{left_step, record_among, records_are, run_of_entry, step}
 

@@ -20,10 +20,11 @@ use Rattle.gd_map_laws.specs.Space.{sum_of}
 use Rattle.gd_readable.specs.Left.{buckets_left, passing_from, slots_left}
 use Rattle.gd_readable.proofs.Passing.{buckets_step, no_slots, passing_no, passing_yes, slots_step, starts_whole}
 use Rattle.gd_readable.proofs.Runs.{run_ends}
-use Rattle.gd_readable.proofs.Walks.{not_first, starts}
+use Rattle.gd_file_laws.proofs.Walk.{starts}
+use Rattle.gd_readable.proofs.Walks.{not_first}
 use Rattle.gd_lookup.specs.Counting.{Begins, behind}
-use Rattle.gd_lookup.specs.Open.{IsOpen}
-use Rattle.gd_lookup.proofs.Blocks.{open_dir, open_parts}
+use Rattle.gd_open.specs.Files.{IsOpen}
+use Rattle.gd_open.proofs.Blocks.{open_dir, open_parts}
 
 -- ---- lists of what passes
 

@@ -16,7 +16,7 @@ use Rattle.gd_map_laws.specs.Lookup.{index_of}
 use Rattle.gd_map_laws.specs.Find.{is_slot_of}
 use Rattle.gd_map_laws.specs.Maps.{pair_map}
 use Rattle.gd_vault.specs.Views.{View}
-use Rattle.gd_lookup.specs.Open.{AtFile, IsOpen}
+use Rattle.gd_open.specs.Files.{AtFile, IsOpen}
 use Rattle.gd_lookup.specs.Reading.{LiesIn, value_in}
 
 -- the slots of the bucket in which a key belongs

@@ -1,4 +1,3 @@
-pub mod Open
 pub mod Reading
 pub mod Finding
 pub mod Order

@@ -3,22 +3,24 @@
 ghost use Rattle.std.specs.Prelude.{◌≡◌, ◌+◌, ◌-◌, ◌*◌, ◌/◌, ◌<◌, ◌≤◌, ◌^◌, ◌++◌, false, true, [], ◌∷◌, length, IfOk, IfErr, IfNone, IfSome};
 ghost use Rattle.gd_format.specs.File.{are_fields_right, block_of, entries_of, is_full_at, is_record_in, key_of, records};
 ghost use Rattle.gd_format.specs.HeaderFault.{natural};
-ghost use Rattle.gd_format.specs.Headers.{IsHeader};
-ghost use Rattle.gd_readable.specs.Asks.{Counts, kept_of, bytes_in, is_there, Tells};
+ghost use Rattle.gd_vault.specs.Views.{HasFile, OnlyAsks};
+ghost use Rattle.gd_readable.specs.Asks.{Counts};
 ghost use Rattle.gd_readable.specs.Left.{passing_from, slots_left, buckets_left};
+ghost use Rattle.gd_open.specs.Files.{AtFile, OfFile};
+ghost use Rattle.gd_open.specs.Open.{IsFit};
+ghost use Rattle.gd_open.specs.Reading.{RefusesRead};
 ghost use Rattle.gd_lookup.specs.Counting.{behind, Begins, IsBlock};
-ghost use Rattle.gd_lookup.specs.Open.{IsOpen};
 ghost use Rattle.gd_lookup.specs.Order.{first_of, following, successor};
-ghost use Rattle.gd_lookup.specs.Reading.{IsRefused};
 
 use crate::Successor;
-use crate::candidates::find_in;
-use crate::parts::{bucket_in, entry_address, part_of_record, read_block};
+use crate::candidates::find_key;
+use crate::records::{dir_bits, entry_count, part_of_record};
 use crate::totals::share_of;
 use gd_base::{Datum, DbError};
-use gd_format::{Header, RawSlot};
+use gd_format::RawSlot;
 use gd_layout::{Native, hash};
-use gd_vault::{FileId, Vault};
+use gd_open::OpenFile;
+use gd_vault::Vault;
 use std::alloc::Global;
 
 // The next full slot of a bucket, from one on.
@@ -50,94 +52,86 @@ fn key_place(raw: &RawSlot) -> Option<(u64, u32)>
 }
 
 // The key of a slot as it stands.
-#[tactic(auto, using(crate::proofs::Opens::refused_later))]
 fn raw_key<V: Vault>(
+    file: &OpenFile,
     alloc: Global,
     vault: &mut V,
-    f: FileId,
     at: u64,
     place: u32,
     raw: &RawSlot,
 ) -> Result<Datum, DbError>
-    requires there { is_there (kept_of (V.view_of vault.old)) f.0 ≡ true }
-    requires right { Tells (bytes_in (kept_of (V.view_of vault.old)) f.0) (λ file. (are_fields_right raw.now ≡ true) × (is_record_in (length file) raw.now ≡ true)) }
-    ensures same { kept_of (V.view_of vault.new) ≡ kept_of (V.view_of vault.old) }
-    ensures later { (V.view_of vault.old).faults ≤ (V.view_of vault.new).faults }
+    requires file { HasFile (V.view_of vault.old) file.now.id }
+    requires right { AtFile (V.view_of vault.old) file.now.id (λ bytes. (are_fields_right raw.now ≡ true) × (is_record_in (length bytes) raw.now ≡ true)) }
+    ensures asks { OnlyAsks (V.view_of vault.old) (V.view_of vault.new) }
     ensures answered { IfOk result (λ _. (V.view_of vault.new).faults ≡ (V.view_of vault.old).faults) }
     ensures counted { IfErr result (λ e. Counts e (V.view_of vault.old).faults (V.view_of vault.new).faults) }
-    ensures key { IfOk result (λ k. Tells (bytes_in (kept_of (V.view_of vault.old)) f.0) (λ file. k ≡ key_of file raw.now)) }
-    ensures refused { IfErr result (λ e. IsRefused e (kept_of (V.view_of vault.old)) f.0 (V.view_of vault.old).faults (V.view_of vault.new).faults) }
+    ensures key { IfOk result (λ k. AtFile (V.view_of vault.old) file.now.id (λ bytes. k ≡ key_of bytes raw.now)) }
+    ensures refused { IfErr result (λ e. RefusesRead e (V.view_of vault.old) (V.view_of vault.new)) }
 {
     let Some(key) = key_place(raw) else {
         return Err(DbError::BadHashEntry(at, place));
     };
-    let bytes = part_of_record(alloc, vault, f, key.0, key.1, (at, place))?;
+    let bytes = part_of_record(file, alloc, vault, key.0, key.1, (at, place))?;
     Ok(bytes)
 }
 
 // The first key of a bucket, from a slot on.
-#[tactic(auto, using(crate::proofs::Opens::refused_later))]
 fn first_in_block<V: Vault>(
+    file: &OpenFile,
     alloc: Global,
     vault: &mut V,
-    f: FileId,
-    header: &Header,
     at: u64,
-    block: &[u8],
     from: u32,
 ) -> Result<Option<Datum>, DbError>
-    requires there { is_there (kept_of (V.view_of vault.old)) f.0 ≡ true }
-    requires header { IsHeader header.now }
-    requires size { length block.now ≡ header.now.block }
-    requires slot { from ≤ header.now.elems }
-    requires readable { Tells (bytes_in (kept_of (V.view_of vault.old)) f.0) (λ file. IsOpen file header.now) }
-    requires block { Tells (bytes_in (kept_of (V.view_of vault.old)) f.0) (λ file. IsBlock file header.now block.now) }
-    ensures same { kept_of (V.view_of vault.new) ≡ kept_of (V.view_of vault.old) }
-    ensures later { (V.view_of vault.old).faults ≤ (V.view_of vault.new).faults }
+    requires file { HasFile (V.view_of vault.old) file.now.id }
+    requires slot { from ≤ file.now.header.elems }
+    requires readable { OfFile (V.view_of vault.old) file.now.id file.now.header }
+    requires block { AtFile (V.view_of vault.old) file.now.id (λ bytes. IsBlock bytes file.now.header file.now.block) }
+    ensures asks { OnlyAsks (V.view_of vault.old) (V.view_of vault.new) }
     ensures answered { IfOk result (λ _. (V.view_of vault.new).faults ≡ (V.view_of vault.old).faults) }
     ensures counted { IfErr result (λ e. Counts e (V.view_of vault.old).faults (V.view_of vault.new).faults) }
-    ensures some { IfOk result (λ r. IfSome r (λ _. Tells (bytes_in (kept_of (V.view_of vault.old)) f.0) (λ file. first_of (slots_left file header.now.elems block.now from) ≡ r))) }
-    ensures none { IfOk result (λ r. IfNone r (passing_from (is_full_at block.now) header.now.elems from ≡ [])) }
-    ensures refused { IfErr result (λ e. IsRefused e (kept_of (V.view_of vault.old)) f.0 (V.view_of vault.old).faults (V.view_of vault.new).faults) }
+    ensures some { IfOk result (λ r. IfSome r (λ _. AtFile (V.view_of vault.old) file.now.id (λ bytes. first_of (slots_left bytes file.now.header.elems file.now.block from) ≡ r))) }
+    ensures none { IfOk result (λ r. IfNone r (passing_from (is_full_at file.now.block) file.now.header.elems from ≡ [])) }
+    ensures refused { IfErr result (λ e. RefusesRead e (V.view_of vault.old) (V.view_of vault.new)) }
 {
-    let Some(s) = next_full(block, header.elems, from) else {
+    let elems = file.header().elems;
+    let Some(s) = next_full(file.block(), elems, from) else {
         return Ok(None);
     };
-    let key = raw_key(alloc, vault, f, at, s, &Native::raw_slot(block, s))?;
+    let raw = Native::raw_slot(file.block(), s);
+    let key = raw_key(file, alloc, vault, at, s, &raw)?;
     Ok(Some(key))
 }
 
 // The first key of the runs from one on.
-#[tactic(auto, using(crate::proofs::Opens::refused_later))]
 fn first_from<V: Vault>(
+    file: &mut OpenFile,
     alloc: Global,
     vault: &mut V,
-    f: FileId,
-    header: &Header,
     from: u64,
-    buf: &mut [u8],
 ) -> Result<Option<Datum>, DbError>
-    requires there { is_there (kept_of (V.view_of vault.old)) f.0 ≡ true }
-    requires header { IsHeader header.now }
-    requires size { length buf.old ≡ header.now.block }
-    requires readable { Tells (bytes_in (kept_of (V.view_of vault.old)) f.0) (λ file. IsOpen file header.now) }
-    requires begins { Tells (bytes_in (kept_of (V.view_of vault.old)) f.0) (λ file. Begins file header.now from) }
-    ensures same { kept_of (V.view_of vault.new) ≡ kept_of (V.view_of vault.old) }
-    ensures later { (V.view_of vault.old).faults ≤ (V.view_of vault.new).faults }
+    requires file { HasFile (V.view_of vault.old) file.old.id }
+    requires readable { OfFile (V.view_of vault.old) file.old.id file.old.header }
+    requires begins { AtFile (V.view_of vault.old) file.old.id (λ bytes. Begins bytes file.old.header from) }
+    ensures asks { OnlyAsks (V.view_of vault.old) (V.view_of vault.new) }
     ensures answered { IfOk result (λ _. (V.view_of vault.new).faults ≡ (V.view_of vault.old).faults) }
     ensures counted { IfErr result (λ e. Counts e (V.view_of vault.old).faults (V.view_of vault.new).faults) }
-    ensures first { IfOk result (λ r. Tells (bytes_in (kept_of (V.view_of vault.old)) f.0) (λ file. r ≡ first_of (buckets_left file header.now from))) }
-    ensures refused { IfErr result (λ e. IsRefused e (kept_of (V.view_of vault.old)) f.0 (V.view_of vault.old).faults (V.view_of vault.new).faults) }
+    ensures same { file.new ≡ record file.old { block = file.new.block } }
+    ensures fit { IsFit file.new }
+    ensures first { IfOk result (λ r. AtFile (V.view_of vault.old) file.old.id (λ bytes. r ≡ first_of (buckets_left bytes file.old.header from))) }
+    ensures refused { IfErr result (λ e. RefusesRead e (V.view_of vault.old) (V.view_of vault.new)) }
 {
+    let bits = dir_bits(file);
+    let entries = entry_count(file);
     let mut i = from;
-    'runs: while i < 1 << header.dir_bits {
-        let at = entry_address(vault, f, header, i)?;
-        read_block(vault, f, header, at, buf)?;
-        let first = first_in_block(alloc, vault, f, header, at, buf, 0)?;
+    'runs: while i < entries {
+        let at = file.entry(vault, i)?;
+        file.read_block(vault, at)?;
+        let first = first_in_block(file, alloc, vault, at, 0)?;
         if let Some(key) = first {
             return Ok(Some(key));
         }
-        let Some(share) = share_of(header, buf) else {
+        let Some(share) = share_of(bits, Native::counts(file.block())) else {
             return Err(DbError::BadBucket(at));
         };
         i += share.run;
@@ -145,65 +139,58 @@ fn first_from<V: Vault>(
     Ok(None)
 }
 
-// The first key of a file.
-#[tactic(auto, using(crate::proofs::Opens::refused_later))]
-pub fn first_key_of<V: Vault>(
+/// The first key in file order.
+pub fn first_key<V: Vault>(
+    file: &mut OpenFile,
     alloc: Global,
     vault: &mut V,
-    f: FileId,
-    header: &Header,
-    buf: &mut [u8],
 ) -> Result<Option<Datum>, DbError>
-    requires there { is_there (kept_of (V.view_of vault.old)) f.0 ≡ true }
-    requires header { IsHeader header.now }
-    requires size { length buf.old ≡ header.now.block }
-    requires readable { Tells (bytes_in (kept_of (V.view_of vault.old)) f.0) (λ file. IsOpen file header.now) }
-    ensures same { kept_of (V.view_of vault.new) ≡ kept_of (V.view_of vault.old) }
-    ensures later { (V.view_of vault.old).faults ≤ (V.view_of vault.new).faults }
+    requires file { HasFile (V.view_of vault.old) file.old.id }
+    requires readable { OfFile (V.view_of vault.old) file.old.id file.old.header }
+    ensures asks { OnlyAsks (V.view_of vault.old) (V.view_of vault.new) }
     ensures answered { IfOk result (λ _. (V.view_of vault.new).faults ≡ (V.view_of vault.old).faults) }
     ensures counted { IfErr result (λ e. Counts e (V.view_of vault.old).faults (V.view_of vault.new).faults) }
-    ensures first { IfOk result (λ r. Tells (bytes_in (kept_of (V.view_of vault.old)) f.0) (λ file. r ≡ first_of (records file))) }
-    ensures refused { IfErr result (λ e. IsRefused e (kept_of (V.view_of vault.old)) f.0 (V.view_of vault.old).faults (V.view_of vault.new).faults) }
+    ensures same { file.new ≡ record file.old { block = file.new.block } }
+    ensures fit { IsFit file.new }
+    ensures first { IfOk result (λ r. AtFile (V.view_of vault.old) file.old.id (λ bytes. r ≡ first_of (records bytes))) }
+    ensures refused { IfErr result (λ e. RefusesRead e (V.view_of vault.old) (V.view_of vault.new)) }
 {
-    let first = first_from(alloc, vault, f, header, 0, buf)?;
+    let first = first_from(file, alloc, vault, 0)?;
     Ok(first)
 }
 
-// The first key behind a slot of the bucket of an entry, of which `block` is the block.
-#[tactic(auto, using(crate::proofs::Opens::refused_later))]
+// The first key behind a slot of the bucket of an entry, of which the block was read last.
 fn first_behind<V: Vault>(
+    file: &mut OpenFile,
     alloc: Global,
     vault: &mut V,
-    f: FileId,
-    header: &Header,
     i: u64,
     at: u64,
     place: u32,
-    block: &mut [u8],
 ) -> Result<Option<Datum>, DbError>
-    requires there { is_there (kept_of (V.view_of vault.old)) f.0 ≡ true }
-    requires header { IsHeader header.now }
-    requires size { length block.old ≡ header.now.block }
-    requires within { i < entries_of header.now }
-    requires place { place < header.now.elems }
-    requires readable { Tells (bytes_in (kept_of (V.view_of vault.old)) f.0) (λ file. IsOpen file header.now) }
-    requires block { Tells (bytes_in (kept_of (V.view_of vault.old)) f.0) (λ file. block.old ≡ block_of file header.now i) }
-    ensures same { kept_of (V.view_of vault.new) ≡ kept_of (V.view_of vault.old) }
-    ensures later { (V.view_of vault.old).faults ≤ (V.view_of vault.new).faults }
+    requires file { HasFile (V.view_of vault.old) file.old.id }
+    requires within { i < entries_of file.old.header }
+    requires place { place < file.old.header.elems }
+    requires readable { OfFile (V.view_of vault.old) file.old.id file.old.header }
+    requires block { AtFile (V.view_of vault.old) file.old.id (λ bytes. file.old.block ≡ block_of bytes file.old.header i) }
+    ensures asks { OnlyAsks (V.view_of vault.old) (V.view_of vault.new) }
     ensures answered { IfOk result (λ _. (V.view_of vault.new).faults ≡ (V.view_of vault.old).faults) }
     ensures counted { IfErr result (λ e. Counts e (V.view_of vault.old).faults (V.view_of vault.new).faults) }
-    ensures first { IfOk result (λ r. Tells (bytes_in (kept_of (V.view_of vault.old)) f.0) (λ file. r ≡ first_of (slots_left file header.now.elems (block_of file header.now i) (place + 1) ++ buckets_left file header.now (behind file header.now i)))) }
-    ensures refused { IfErr result (λ e. IsRefused e (kept_of (V.view_of vault.old)) f.0 (V.view_of vault.old).faults (V.view_of vault.new).faults) }
+    ensures same { file.new ≡ record file.old { block = file.new.block } }
+    ensures fit { IsFit file.new }
+    ensures first { IfOk result (λ r. AtFile (V.view_of vault.old) file.old.id (λ bytes. r ≡ first_of (slots_left bytes file.old.header.elems (block_of bytes file.old.header i) (place + 1) ++ buckets_left bytes file.old.header (behind bytes file.old.header i)))) }
+    ensures refused { IfErr result (λ e. RefusesRead e (V.view_of vault.old) (V.view_of vault.new)) }
 {
-    let first = first_in_block(alloc, vault, f, header, at, block, place + 1)?;
+    let bits = dir_bits(file);
+    let first = first_in_block(file, alloc, vault, at, place + 1)?;
     if let Some(key) = first {
         return Ok(Some(key));
     }
-    let Some(share) = share_of(header, block) else {
+    let Some(share) = share_of(bits, Native::counts(file.block())) else {
         return Err(DbError::BadBucket(at));
     };
     let next = (i / share.run + 1) * share.run;
-    let first = first_from(alloc, vault, f, header, next, block)?;
+    let first = first_from(file, alloc, vault, next)?;
     Ok(first)
 }
 
@@ -216,35 +203,31 @@ fn successor_from(next: Option<Datum>) -> Successor
     }
 }
 
-// What follows a key in file order.
-#[tactic(auto, using(crate::proofs::Opens::refused_later))]
-pub fn after_key<V: Vault>(
+/// What follows a key in file order.
+pub fn key_after<V: Vault>(
+    file: &mut OpenFile,
     alloc: Global,
     vault: &mut V,
-    f: FileId,
-    header: &Header,
     key: &[u8],
-    buf: &mut [u8],
 ) -> Result<Successor, DbError>
-    requires there { is_there (kept_of (V.view_of vault.old)) f.0 ≡ true }
-    requires header { IsHeader header.now }
-    requires size { length buf.old ≡ header.now.block }
-    requires readable { Tells (bytes_in (kept_of (V.view_of vault.old)) f.0) (λ file. IsOpen file header.now) }
-    ensures same { kept_of (V.view_of vault.new) ≡ kept_of (V.view_of vault.old) }
-    ensures later { (V.view_of vault.old).faults ≤ (V.view_of vault.new).faults }
+    requires file { HasFile (V.view_of vault.old) file.old.id }
+    requires readable { OfFile (V.view_of vault.old) file.old.id file.old.header }
+    ensures asks { OnlyAsks (V.view_of vault.old) (V.view_of vault.new) }
     ensures answered { IfOk result (λ _. (V.view_of vault.new).faults ≡ (V.view_of vault.old).faults) }
     ensures counted { IfErr result (λ e. Counts e (V.view_of vault.old).faults (V.view_of vault.new).faults) }
-    ensures next { IfOk result (λ r. Tells (bytes_in (kept_of (V.view_of vault.old)) f.0) (λ file. r ≡ successor key.now (records file))) }
-    ensures refused { IfErr result (λ e. IsRefused e (kept_of (V.view_of vault.old)) f.0 (V.view_of vault.old).faults (V.view_of vault.new).faults) }
+    ensures same { file.new ≡ record file.old { block = file.new.block } }
+    ensures fit { IsFit file.new }
+    ensures next { IfOk result (λ r. AtFile (V.view_of vault.old) file.old.id (λ bytes. r ≡ successor key.now (records bytes))) }
+    ensures refused { IfErr result (λ e. RefusesRead e (V.view_of vault.old) (V.view_of vault.new)) }
 {
     let hash = hash(key);
-    let i = u64::from(hash >> (31 - header.dir_bits));
-    let at = entry_address(vault, f, header, i)?;
-    let bucket = bucket_in(alloc, vault, f, header, at, buf)?;
-    let found = find_in(vault, f, at, &bucket, hash, key)?;
+    let i = u64::from(hash >> (31 - dir_bits(file)));
+    let at = file.entry(vault, i)?;
+    let bucket = file.read_bucket(alloc, vault, at)?;
+    let found = find_key(file, vault, at, &bucket, hash, key)?;
     let Some(place) = found else {
         return Ok(Successor::Absent);
     };
-    let next = first_behind(alloc, vault, f, header, i, at, place, buf)?;
+    let next = first_behind(file, alloc, vault, i, at, place)?;
     Ok(successor_from(next))
 }

@@ -1,21 +1,19 @@
 //! Reads an open database: the look-up of a key, the keys in file order, and the number of records.
 #![tactic(auto)]
 
-mod calls;
 mod candidates;
 mod following;
 mod laws;
-mod parts;
-#[cfg(test)]
-mod small_vault;
+mod records;
 #[cfg(test)]
 mod tests;
 mod totals;
 
-pub use crate::calls::{
-    bucket_address, bucket_at, count, find_key, first_key, key_after, read_key, read_value,
-};
+pub use crate::candidates::find_key;
+pub use crate::following::{first_key, key_after};
 pub use crate::laws::{bucket_of_key, look_up_tells};
+pub use crate::records::{bucket_address, read_key, read_value};
+pub use crate::totals::count;
 use gd_base::Datum;
 
 /// What follows a key in file order.

@@ -1,14 +1,12 @@
-ghost use Rattle.gd_format.specs.Headers.{IsHeader};
-
-use crate::small_vault::SmallVault;
 use crate::{
-    Successor, bucket_address, bucket_at, count, find_key, first_key, key_after, read_key,
-    read_value,
+    Successor, bucket_address, count, find_key, first_key, key_after, read_key, read_value,
 };
 use gd_base::DbError;
-use gd_format::Header;
 use gd_layout::hash;
+use gd_open::OpenFile;
 use gd_readable::readable;
+use gd_space::Space;
+use gd_testvault::SmallVault;
 use gd_vault::FileId;
 use std::alloc::Global;
 use std::process::Abort;
@@ -68,136 +66,114 @@ fn three_records(rt: &impl Abort) -> [u8; ROOM] {
     file
 }
 
-fn vault_of(rt: &impl Abort, alloc: Global, reads: u64) -> Option<SmallVault> {
-    let file = three_records(rt);
-    match file.to_vec(alloc) {
-        Ok(bytes) => Some(SmallVault {
-            bytes,
-            reads_left: reads,
-            faults: 0,
-        }),
-        Err(_) => {
-            assert!(rt; false, "out of memory");
-            None
+// That file in a vault, opened.
+#[derive(Drop)]
+struct Trial {
+    alloc: Global,
+    vault: SmallVault,
+    file: OpenFile,
+}
+
+impl Trial {
+    fn new(rt: &impl Abort, alloc: Global) -> Option<Trial> {
+        let Ok(bytes) = three_records(rt).to_vec(alloc) else {
+            return None;
+        };
+        let mut vault = SmallVault::new(bytes, 1 << 20);
+        let Ok(header) = readable(alloc, &mut vault, FileId(0)) else {
+            return None;
+        };
+        let Some(space) = Space::empty(alloc, &header) else {
+            return None;
+        };
+        let Ok(block) = vec![in alloc; 0u8; header.block as usize] else {
+            return None;
+        };
+        let file = OpenFile::new(FileId(0), header, space, block);
+        Some(Trial { alloc, vault, file })
+    }
+
+    // Looks a key up, and reads the key and the value of its slot.
+    fn has_value(&mut self, rt: &impl Abort, key: &[u8], value: Option<&[u8]>) {
+        let hash = hash(key);
+        let Ok(at) = bucket_address(&self.file, &mut self.vault, hash) else {
+            return assert!(rt; false);
+        };
+        let Ok(bucket) = self.file.read_bucket(self.alloc, &mut self.vault, at) else {
+            return assert!(rt; false);
+        };
+        let Ok(found) = find_key(&self.file, &mut self.vault, at, &bucket, hash, key) else {
+            return assert!(rt; false);
+        };
+        let Some(place) = found else {
+            return assert!(rt; value.is_none());
+        };
+        let slot = &bucket.slots()[place as usize];
+        let own = read_key(&self.file, self.alloc, &mut self.vault, at, place, slot);
+        assert!(rt; own.is_ok_and(|own| own.as_slice() == key));
+        let read = read_value(&self.file, self.alloc, &mut self.vault, at, place, slot);
+        assert!(rt; read.is_ok_and(|read| Some(read.as_slice()) == value));
+    }
+
+    // What follows a key in file order.
+    fn follows(&mut self, rt: &impl Abort, key: &[u8], next: Option<&[u8]>) {
+        match key_after(&mut self.file, self.alloc, &mut self.vault, key) {
+            Ok(Successor::Key(own)) => assert!(rt; Some(own.as_slice()) == next),
+            Ok(Successor::Last) => assert!(rt; next.is_none()),
+            Ok(Successor::Absent) => assert!(rt; false),
+            Err(_) => assert!(rt; false),
         }
     }
 }
 
-// Looks a key up, and reads the key and the value of its slot.
-fn has_value(
-    rt: &impl Abort,
-    alloc: Global,
-    vault: &mut SmallVault,
-    header: &Header,
-    key: &[u8],
-    value: Option<&[u8]>,
-)
-    requires { IsHeader header.now }
-{
-    let f = FileId(0);
-    let Ok(mut buf) = vec![in alloc; 0u8; header.block as usize] else {
-        return assert!(rt; false, "out of memory");
-    };
-    let hash = hash(key);
-    let Ok(at) = bucket_address(vault, f, header, hash) else {
-        return assert!(rt; false);
-    };
-    let Ok(bucket) = bucket_at(alloc, vault, f, header, at, &mut buf) else {
-        return assert!(rt; false);
-    };
-    let slots = bucket.slots();
-    assert!(rt; !slots.is_empty());
-    let Ok(found) = find_key(vault, f, at, &bucket, hash, key) else {
-        return assert!(rt; false);
-    };
-    let Some(place) = found else {
-        return assert!(rt; value.is_none());
-    };
-    let slot = &slots[place as usize];
-    let own = read_key(alloc, vault, f, at, place, slot);
-    assert!(rt; own.is_ok_and(|own| own.as_slice() == key));
-    let read = read_value(alloc, vault, f, at, place, slot);
-    assert!(rt; read.is_ok_and(|read| Some(read.as_slice()) == value));
-}
-
 #[test]
 fn keys_are_found_with_their_values(rt: HostRuntime) -> Result<(), Fail> {
-    let Some(mut vault) = vault_of(&rt, rt.alloc(), 1 << 20) else {
-        return Ok(());
-    };
-    let Ok(header) = readable(rt.alloc(), &mut vault, FileId(0)) else {
+    let Some(mut trial) = Trial::new(&rt, rt.alloc()) else {
         assert!(&rt; false);
         return Ok(());
     };
-    has_value(&rt, rt.alloc(), &mut vault, &header, b"k", Some(b"v"));
-    has_value(&rt, rt.alloc(), &mut vault, &header, b"dd", Some(b"!"));
-    has_value(&rt, rt.alloc(), &mut vault, &header, b"A----z", Some(b"w"));
-    has_value(&rt, rt.alloc(), &mut vault, &header, b"a----j", None);
-    has_value(&rt, rt.alloc(), &mut vault, &header, b"", None);
-    let n = count(&mut vault, FileId(0), &header);
+    let rows: [(&[u8], Option<&[u8]>); 5] = [
+        (b"k", Some(b"v")),
+        (b"dd", Some(b"!")),
+        (b"A----z", Some(b"w")),
+        (b"a----j", None),
+        (b"", None),
+    ];
+    for (key, value) in rows {
+        trial.has_value(&rt, key, value);
+    }
+    let n = count(&trial.file, &mut trial.vault);
     assert!(&rt; n == Ok(3));
     Ok(())
 }
 
-// The keys in file order: what comes first, and what follows each.
-fn follows(
-    rt: &impl Abort,
-    alloc: Global,
-    vault: &mut SmallVault,
-    header: &Header,
-    key: &[u8],
-    next: Option<&[u8]>,
-)
-    requires { IsHeader header.now }
-{
-    let Ok(mut buf) = vec![in alloc; 0u8; header.block as usize] else {
-        return assert!(rt; false, "out of memory");
-    };
-    match key_after(alloc, vault, FileId(0), header, key, &mut buf) {
-        Ok(Successor::Key(own)) => assert!(rt; Some(own.as_slice()) == next),
-        Ok(Successor::Last) => assert!(rt; next.is_none()),
-        Ok(Successor::Absent) => assert!(rt; false),
-        Err(_) => assert!(rt; false),
-    }
-}
-
 #[test]
 fn keys_follow_one_another_in_file_order(rt: HostRuntime) -> Result<(), Fail> {
-    let Some(mut vault) = vault_of(&rt, rt.alloc(), 1 << 20) else {
-        return Ok(());
-    };
-    let Ok(header) = readable(rt.alloc(), &mut vault, FileId(0)) else {
+    let Some(mut trial) = Trial::new(&rt, rt.alloc()) else {
         assert!(&rt; false);
         return Ok(());
     };
-    let Ok(mut buf) = vec![in rt.alloc(); 0u8; header.block as usize] else {
-        assert!(&rt; false);
-        return Ok(());
-    };
-    let first = first_key(rt.alloc(), &mut vault, FileId(0), &header, &mut buf);
+    let first = first_key(&mut trial.file, trial.alloc, &mut trial.vault);
     assert!(&rt;
         first.is_ok_and(|first| first.is_some_and(|key| key.as_slice() == b"k".as_slice()))
     );
-    follows(&rt, rt.alloc(), &mut vault, &header, b"k", Some(b"dd"));
-    follows(&rt, rt.alloc(), &mut vault, &header, b"dd", Some(b"A----z"));
-    follows(&rt, rt.alloc(), &mut vault, &header, b"A----z", None);
-    let absent = key_after(rt.alloc(), &mut vault, FileId(0), &header, b"db", &mut buf);
+    trial.follows(&rt, b"k", Some(b"dd"));
+    trial.follows(&rt, b"dd", Some(b"A----z"));
+    trial.follows(&rt, b"A----z", None);
+    let absent = key_after(&mut trial.file, trial.alloc, &mut trial.vault, b"db");
     assert!(&rt; matches!(absent, Ok(Successor::Absent)));
     Ok(())
 }
 
-// A vault whose reads fail at once.
+// A vault whose reads fail from the fourth on.
 #[test]
 fn a_read_that_fails_is_a_fault(rt: HostRuntime) -> Result<(), Fail> {
-    let Some(mut vault) = vault_of(&rt, rt.alloc(), 1 << 20) else {
-        return Ok(());
-    };
-    let Ok(header) = readable(rt.alloc(), &mut vault, FileId(0)) else {
+    let Some(mut trial) = Trial::new(&rt, rt.alloc()) else {
         assert!(&rt; false);
         return Ok(());
     };
-    vault.reads_left = 3;
-    let n = count(&mut vault, FileId(0), &header);
-    assert!(&rt; n == Err(DbError::VaultFault) && vault.faults == 1);
+    trial.vault.calls_left = 3;
+    let n = count(&trial.file, &mut trial.vault);
+    assert!(&rt; n == Err(DbError::VaultFault) && trial.vault.faults == 1);
     Ok(())
 }

@@ -61,6 +61,9 @@ pub fn push_last<V: Vault>(
     ensures same_vault { IfErr result (λ e. e ≡ FileFull → V.view_of vault.new ≡ V.view_of vault.old) }
     ensures error { IfErr result (λ e. (e ≡ VaultFault) ⊎ (e ≡ FileFull)) }
     ensures fault { IfErr result (λ e. e ≡ VaultFault → Rose (V.view_of vault.old).faults (V.view_of vault.new).faults) }
+    ensures answered { OnOk result ((V.view_of vault.new).faults ≡ (V.view_of vault.old).faults) }
+    ensures once { OnErr result ((V.view_of vault.new).faults ≤ (V.view_of vault.old).faults + 1) }
+    ensures counted { IfErr result (λ e. e ≢ VaultFault → (V.view_of vault.new).faults ≡ (V.view_of vault.old).faults) }
     ensures fields { AllByRecursion FitsExtent table.new.extents }
     ensures room { table.new.room ≡ table.old.room }
     ensures spare_room { spare.new.room ≡ spare.old.room }
@@ -120,6 +123,9 @@ pub fn make_room<V: Vault>(
     ensures same_vault { IfErr result (λ e. e ≡ FileFull → V.view_of vault.new ≡ V.view_of vault.old) }
     ensures error { IfErr result (λ e. (e ≡ VaultFault) ⊎ (e ≡ FileFull)) }
     ensures fault { IfErr result (λ e. e ≡ VaultFault → Rose (V.view_of vault.old).faults (V.view_of vault.new).faults) }
+    ensures answered { OnOk result ((V.view_of vault.new).faults ≡ (V.view_of vault.old).faults) }
+    ensures once { OnErr result ((V.view_of vault.new).faults ≤ (V.view_of vault.old).faults + 1) }
+    ensures counted { IfErr result (λ e. e ≢ VaultFault → (V.view_of vault.new).faults ≡ (V.view_of vault.old).faults) }
     ensures fields { AllByRecursion FitsExtent table.new.extents }
     ensures room { table.new.room ≡ table.old.room }
     ensures spare_room { spare.new.room ≡ spare.old.room }
@@ -185,6 +191,9 @@ pub fn give<V: Vault>(
     ensures same_vault { IfErr result (λ e. e ≡ FileFull → V.view_of vault.new ≡ V.view_of vault.old) }
     ensures error { IfErr result (λ e. (e ≡ VaultFault) ⊎ (e ≡ FileFull)) }
     ensures fault { IfErr result (λ e. e ≡ VaultFault → Rose (V.view_of vault.old).faults (V.view_of vault.new).faults) }
+    ensures answered { OnOk result ((V.view_of vault.new).faults ≡ (V.view_of vault.old).faults) }
+    ensures once { OnErr result ((V.view_of vault.new).faults ≤ (V.view_of vault.old).faults + 1) }
+    ensures counted { IfErr result (λ e. e ≢ VaultFault → (V.view_of vault.new).faults ≡ (V.view_of vault.old).faults) }
     ensures fields { AllByRecursion FitsExtent table.new.extents }
     ensures room { table.new.room ≡ table.old.room }
     ensures spare_room { spare.new.room ≡ spare.old.room }
@@ -258,6 +267,9 @@ pub fn recut<V: Vault>(
     ensures same_vault { IfErr result (λ e. e ≡ FileFull → V.view_of vault.new ≡ V.view_of vault.old) }
     ensures error { IfErr result (λ e. (e ≡ VaultFault) ⊎ (e ≡ FileFull)) }
     ensures fault { IfErr result (λ e. e ≡ VaultFault → Rose (V.view_of vault.old).faults (V.view_of vault.new).faults) }
+    ensures answered { OnOk result ((V.view_of vault.new).faults ≡ (V.view_of vault.old).faults) }
+    ensures once { OnErr result ((V.view_of vault.new).faults ≤ (V.view_of vault.old).faults + 1) }
+    ensures counted { IfErr result (λ e. e ≢ VaultFault → (V.view_of vault.new).faults ≡ (V.view_of vault.old).faults) }
     ensures fields { AllByRecursion FitsExtent table.new.extents }
     ensures room { table.new.room ≡ table.old.room }
     ensures spare_room { spare.new.room ≡ spare.old.room }

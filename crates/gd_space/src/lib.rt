@@ -14,8 +14,6 @@ mod lists;
 mod marks;
 mod push;
 mod room;
-#[cfg(test)]
-mod small_vault;
 mod space;
 mod stack;
 mod take;

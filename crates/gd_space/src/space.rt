@@ -46,6 +46,9 @@ fn read_table<V: Vault>(
     ensures room { table.new.room ≡ table.old.room }
     ensures error { IfErr result (λ e. (e ≡ VaultFault) ⊎ (e ≡ BadAvail (place_of header.now))) }
     ensures fault { IfErr result (λ e. e ≡ VaultFault → Rose (V.view_of vault.old).faults (V.view_of vault.new).faults) }
+    ensures answered { OnOk result ((V.view_of vault.new).faults ≡ (V.view_of vault.old).faults) }
+    ensures once { OnErr result ((V.view_of vault.new).faults ≤ (V.view_of vault.old).faults + 1) }
+    ensures counted { IfErr result (λ e. e ≢ VaultFault → (V.view_of vault.new).faults ≡ (V.view_of vault.old).faults) }
     ensures bad { IfErr result (λ e. e ≢ VaultFault → IsAt (V.view_of vault.old) (λ c. (x : File) → c.files f.0 ≡ Some x → (is_avail (table_of x.bytes header.now) header.now.avail_size ≡ false) ⊎ (length x.bytes < header.now.block))) }
 {
     let place = place_in(header);
@@ -115,6 +118,9 @@ impl Space {
         ensures table { IfOk result (λ s. IsAt (V.view_of vault.old) (λ c. (x : File) → c.files f.0 ≡ Some x → s.table ≡ avail_at (table_of x.bytes header.now) (most_of header.now))) }
         ensures right { IfOk result (λ s. IsAt (V.view_of vault.old) (λ c. (x : File) → c.files f.0 ≡ Some x → is_avail (table_of x.bytes header.now) header.now.avail_size ≡ true)) }
         ensures fault { IfErr result (λ e. e ≡ VaultFault → Rose (V.view_of vault.old).faults (V.view_of vault.new).faults) }
+        ensures answered { OnOk result ((V.view_of vault.new).faults ≡ (V.view_of vault.old).faults) }
+        ensures once { OnErr result ((V.view_of vault.new).faults ≤ (V.view_of vault.old).faults + 1) }
+        ensures counted { IfErr result (λ e. e ≢ VaultFault → (V.view_of vault.new).faults ≡ (V.view_of vault.old).faults) }
         ensures bad { IfErr result (λ e. (a : ℕ) → e ≡ BadAvail a → (a ≡ place_of header.now) × IsAt (V.view_of vault.old) (λ c. (x : File) → c.files f.0 ≡ Some x → (is_avail (table_of x.bytes header.now) header.now.avail_size ≡ false) ⊎ (length x.bytes < header.now.block))) }
         ensures full { IfErr result (λ e. e ≢ FileFull) }
     {
@@ -195,6 +201,9 @@ impl Space {
         ensures same_header { IfErr result (λ e. header.new ≡ header.old) }
         ensures same_told { IfErr result (λ e. e ≡ FileFull → (V.view_of vault.new).told ≡ (V.view_of vault.old).told) }
         ensures fault { IfErr result (λ e. e ≡ VaultFault → Rose (V.view_of vault.old).faults (V.view_of vault.new).faults) }
+        ensures answered { OnOk result ((V.view_of vault.new).faults ≡ (V.view_of vault.old).faults) }
+        ensures once { OnErr result ((V.view_of vault.new).faults ≤ (V.view_of vault.old).faults + 1) }
+        ensures counted { IfErr result (λ e. e ≢ VaultFault → (V.view_of vault.new).faults ≡ (V.view_of vault.old).faults) }
         ensures bad { IfErr result (λ e. (a : ℕ) → e ≡ BadAvail a → (a ≡ self.old.table.next_block) × TellsNone (V.view_of vault.old)) }
         ensures memory { IfErr result (λ e. e ≢ OutOfMemory) }
         ensures bits { bucket.new.bits ≡ bucket.old.bits }
@@ -253,6 +262,9 @@ impl Space {
         ensures same_vault { IfErr result (λ e. e ≡ FileFull → V.view_of vault.new ≡ V.view_of vault.old) }
         ensures error { IfErr result (λ e. (e ≡ VaultFault) ⊎ (e ≡ FileFull)) }
         ensures fault { IfErr result (λ e. e ≡ VaultFault → Rose (V.view_of vault.old).faults (V.view_of vault.new).faults) }
+        ensures answered { OnOk result ((V.view_of vault.new).faults ≡ (V.view_of vault.old).faults) }
+        ensures once { OnErr result ((V.view_of vault.new).faults ≤ (V.view_of vault.old).faults + 1) }
+        ensures counted { IfErr result (λ e. e ≢ VaultFault → (V.view_of vault.new).faults ≡ (V.view_of vault.old).faults) }
         ensures bits { bucket.new.bits ≡ bucket.old.bits }
         ensures slots { bucket.new.slots ≡ bucket.old.slots }
         ensures block { self.new.block ≡ self.old.block }
@@ -306,6 +318,9 @@ impl Space {
         ensures same_vault { IfErr result (λ e. e ≡ FileFull → V.view_of vault.new ≡ V.view_of vault.old) }
         ensures error { IfErr result (λ e. (e ≡ VaultFault) ⊎ (e ≡ FileFull)) }
         ensures fault { IfErr result (λ e. e ≡ VaultFault → Rose (V.view_of vault.old).faults (V.view_of vault.new).faults) }
+        ensures answered { OnOk result ((V.view_of vault.new).faults ≡ (V.view_of vault.old).faults) }
+        ensures once { OnErr result ((V.view_of vault.new).faults ≤ (V.view_of vault.old).faults + 1) }
+        ensures counted { IfErr result (λ e. e ≢ VaultFault → (V.view_of vault.new).faults ≡ (V.view_of vault.old).faults) }
         ensures bits { bucket.new.bits ≡ bucket.old.bits }
         ensures slots { bucket.new.slots ≡ bucket.old.slots }
         ensures block { self.new.block ≡ self.old.block }

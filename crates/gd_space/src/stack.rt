@@ -99,6 +99,8 @@ pub fn write_block<V: Vault>(
     ensures frame { OnlyWrites f.0 (V.view_of vault.old) (V.view_of vault.new) }
     ensures error { IfErr result (λ e. e ≡ VaultFault) }
     ensures fault { OnErr result (Rose (V.view_of vault.old).faults (V.view_of vault.new).faults) }
+    ensures answered { OnOk result ((V.view_of vault.new).faults ≡ (V.view_of vault.old).faults) }
+    ensures once { OnErr result ((V.view_of vault.new).faults ≤ (V.view_of vault.old).faults + 1) }
 {
     let n = 16 + 16 * block.extents().len();
     let part = &mut buf[..n];
@@ -130,6 +132,9 @@ pub fn read_block<V: Vault>(
     ensures amount { WritesAtMost 0 (V.view_of vault.old) (V.view_of vault.new) }
     ensures error { IfErr result (λ e. (e ≡ VaultFault) ⊎ (e ≡ BadAvail at)) }
     ensures fault { IfErr result (λ e. e ≡ VaultFault → Rose (V.view_of vault.old).faults (V.view_of vault.new).faults) }
+    ensures answered { OnOk result ((V.view_of vault.new).faults ≡ (V.view_of vault.old).faults) }
+    ensures once { OnErr result ((V.view_of vault.new).faults ≤ (V.view_of vault.old).faults + 1) }
+    ensures counted { IfErr result (λ e. e ≢ VaultFault → (V.view_of vault.new).faults ≡ (V.view_of vault.old).faults) }
     ensures bad { IfErr result (λ e. e ≢ VaultFault → IsAt (V.view_of vault.old) (λ c. (x : File) → c.files f.0 ≡ Some x → is_stack_block x.bytes most at ≡ false)) }
 {
     let whole = 16 + 16 * most as usize;

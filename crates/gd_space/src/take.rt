@@ -88,6 +88,9 @@ pub fn take_now<V: Vault>(
     ensures amount { WritesAtMost (half_size header.old.avail_size) (V.view_of vault.old) (V.view_of vault.new) }
     ensures error { IfErr result (λ e. (e ≡ VaultFault) ⊎ (e ≡ FileFull)) }
     ensures fault { IfErr result (λ e. e ≡ VaultFault → Rose (V.view_of vault.old).faults (V.view_of vault.new).faults) }
+    ensures answered { OnOk result ((V.view_of vault.new).faults ≡ (V.view_of vault.old).faults) }
+    ensures once { OnErr result ((V.view_of vault.new).faults ≤ (V.view_of vault.old).faults + 1) }
+    ensures counted { IfErr result (λ e. e ≢ VaultFault → (V.view_of vault.new).faults ≡ (V.view_of vault.old).faults) }
     ensures full_any { IfErr result (λ e. e ≡ FileFull → 2 ^ 46 < header.old.next_block + (n + 2 * header.old.block)) }
     ensures full { IfErr result (λ e. e ≡ FileFull → 2 ^ 46 < header.old.next_block + growth_of n header.old table.old.extents bucket.old.free) }
     ensures same_table { IfErr result (λ e. e ≡ FileFull → table.new ≡ table.old) }
@@ -138,6 +141,9 @@ pub fn back_up<V: Vault>(
     ensures amount { WritesAtMost 0 (V.view_of vault.old) (V.view_of vault.new) }
     ensures error { IfErr result (λ e. (e ≡ VaultFault) ⊎ (e ≡ BadAvail table.old.next_block)) }
     ensures fault { IfErr result (λ e. e ≡ VaultFault → Rose (V.view_of vault.old).faults (V.view_of vault.new).faults) }
+    ensures answered { OnOk result ((V.view_of vault.new).faults ≡ (V.view_of vault.old).faults) }
+    ensures once { OnErr result ((V.view_of vault.new).faults ≤ (V.view_of vault.old).faults + 1) }
+    ensures counted { IfErr result (λ e. e ≢ VaultFault → (V.view_of vault.new).faults ≡ (V.view_of vault.old).faults) }
     ensures bad { IfErr result (λ e. e ≢ VaultFault → table.old.next_block ≢ 0) }
     ensures no_block { IfErr result (λ e. e ≢ VaultFault → IsAt (V.view_of vault.old) (λ c. (x : File) → c.files f.0 ≡ Some x → is_stack_block x.bytes (most_of header.now) table.old.next_block ≡ false)) }
 {
@@ -200,6 +206,9 @@ pub fn take<V: Vault>(
     ensures bound { OnOk result (header.new.next_block < header.old.next_block + (n + 2 * header.old.block)) }
     ensures amount { WritesAtMost (half_size header.old.avail_size) (V.view_of vault.old) (V.view_of vault.new) }
     ensures fault { IfErr result (λ e. e ≡ VaultFault → Rose (V.view_of vault.old).faults (V.view_of vault.new).faults) }
+    ensures answered { OnOk result ((V.view_of vault.new).faults ≡ (V.view_of vault.old).faults) }
+    ensures once { OnErr result ((V.view_of vault.new).faults ≤ (V.view_of vault.old).faults + 1) }
+    ensures counted { IfErr result (λ e. e ≢ VaultFault → (V.view_of vault.new).faults ≡ (V.view_of vault.old).faults) }
     ensures bad { IfErr result (λ e. (a : ℕ) → e ≡ BadAvail a → (a ≡ table.old.next_block) × TellsNone (V.view_of vault.old)) }
     ensures memory { IfErr result (λ e. e ≢ OutOfMemory) }
     ensures full_any { IfErr result (λ e. e ≡ FileFull → 2 ^ 46 < header.old.next_block + (n + 2 * header.old.block)) }

@@ -5,10 +5,10 @@ ghost use Rattle.gd_format.specs.HeaderFault.{is_block_size};
 
 use crate::Space;
 use crate::marks::Marks;
-use crate::small_vault::SmallVault;
 use gd_base::Format;
 use gd_format::{Extent, Header};
 use gd_layout::Bucket;
+use gd_testvault::SmallVault;
 use gd_vault::FileId;
 use std::alloc::Global;
 use std::marker::Model;
@@ -61,12 +61,7 @@ impl Trial {
         let Ok(bytes) = vec![in alloc; 0u8; size] else {
             return None;
         };
-        let mut vault = SmallVault {
-            bytes,
-            calls_left: u64::MAX,
-            faults: 0,
-            written: 0,
-        };
+        let mut vault = SmallVault::new(bytes, u64::MAX);
         let header = NEW;
         if !is_block(header.block) {
             return None;

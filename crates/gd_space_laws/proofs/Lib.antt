@@ -1,5 +1,4 @@
 pub mod Lost
-pub mod Sized
 pub mod Meets
 pub mod Spelled
 pub mod Patches

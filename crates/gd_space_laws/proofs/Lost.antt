@@ -11,7 +11,8 @@ use Rattle.gd_format.specs.Covers.{cover, size_sum}
 use Rattle.gd_format.specs.Sound.{extent, extents_held, extents, total, lost_total}
 use Rattle.gd_file_laws.specs.Cover.{extents_in}
 use Rattle.gd_space.proofs.Sides.{cover-in}
-use Rattle.gd_map_laws.proofs.Sums.{sum_below, sum_add, sum_even, cover_sum, total_is}
+use Rattle.gd_map_laws.specs.Sums.{sum_below}
+use Rattle.gd_map_laws.proofs.Sums.{sum_add, sum_even, cover_sum, total_is}
 
 -- a cover of bytes before a place, each once at most, is part of that of all bytes before it
 part_of_all : (f : ℕ → ℕ) (n : ℕ) → ((b : ℕ) → f b ≤ 1) → ((b : ℕ) → 0 < f b → b < n) → (b : ℕ) → f b ≤ cover (extent 0 n ∷ []) b

@@ -32,7 +32,7 @@ use Rattle.gd_map_laws.proofs.Space.{sum_le}
 use Rattle.gd_space.specs.Calls.{free_lists}
 use Rattle.gd_space.proofs.Fits.{bounds}
 use Rattle.gd_space_laws.specs.Patched.{patched, AreSpelled, IsPatch}
-use Rattle.gd_space_laws.proofs.Sized.{IsSized, avail_sized, free_sized, stack_sized, below_from}
+use Rattle.gd_map_laws.proofs.Sized.{IsSized, avail_sized, free_sized, stack_sized, below_from}
 use Rattle.gd_space_laws.proofs.Spelled.{two_blocks, length-patched, keeps_back, header_is, table_holds, top_is, free_is, free_reads}
 
 -- the cover of a bucket is part of the sum over all

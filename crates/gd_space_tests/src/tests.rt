@@ -46,3 +46,39 @@ fn ten_thousand_takes_and_gives(rt: HostRuntime) -> Result<(), Fail> {
     }
     Ok(())
 }
+
+// Takes ten bytes a hundred and twenty times, and gives some back until the table has given one half to a block of the stack.
+fn filled(trial: Trial) -> Option<Trial> {
+    let mut trial = trial;
+    for _i in 0..120 {
+        trial = trial.take(10)?;
+    }
+    for i in 0..60 {
+        if trial.top() == 0 {
+            trial = trial.give(i)?;
+        }
+    }
+    Some(trial)
+}
+
+#[test]
+fn a_block_of_the_stack_is_taken_back_before_room_is_taken(rt: HostRuntime) -> Result<(), Fail> {
+    let Some(mut trial) = filled(Trial::new(rt.alloc())?) else {
+        return Err("refused".into());
+    };
+    assert!(rt; trial.top() != 0);
+    for _i in 0..20 {
+        // Extents of ten bytes are at hand all the time.
+        let is_due = trial.table_len() < 14;
+        let Some(after) = trial.take(10) else {
+            return Err("refused".into());
+        };
+        trial = after;
+        assert!(rt; (trial.top() == 0) == is_due);
+        if is_due {
+            assert!(rt; trial.table_len() > 20);
+            return Ok(());
+        }
+    }
+    Err("never taken back".into())
+}

@@ -164,6 +164,11 @@ impl Trial {
         sizes(self.space.table().extents()).saturating_add(sizes(self.bucket.free()))
     }
 
+    /// How many extents the table has.
+    pub fn table_len(&self) -> usize {
+        self.space.table().extents().len()
+    }
+
     /// The address of the first block of the stack.
     pub fn top(&self) -> u64 {
         self.space.table().next_block()

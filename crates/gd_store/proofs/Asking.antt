@@ -11,8 +11,8 @@ use Rattle.gd_format.proofs.Firsts.{or_else-none}
 use Rattle.gd_vault.specs.Content.{Content}
 use Rattle.gd_vault.specs.Views.{View, HasFile, OnlyAsks, content_of}
 use Rattle.gd_readable.proofs.Refusals.{refuses_map}
-use Rattle.gd_lookup.specs.Open.{OfFile}
-use Rattle.gd_lookup.specs.Reading.{is_of_read, RefusesRead}
+use Rattle.gd_open.specs.Files.{OfFile}
+use Rattle.gd_open.specs.Reading.{is_of_read, RefusesRead}
 use Rattle.gd_store.specs.declared.access.Access.{Access}
 use Rattle.gd_store.specs.declared.access.Access.TheVariants.{Reader, Writer}
 use Rattle.gd_store.specs.Opened.{Opened, IsRightFor, Fits, OnFile, SameButCached}

@@ -1,6 +1,6 @@
 -- Facts of calls that change.
 use Rattle.std.proofs.Common.{◌≡◌, ◌≢◌, ◌⊎◌, ⊎_elim, ℕ, zero, suc, ◌+◌, ◌^◌, ◌<◌, ◌≤◌, Bool, true, false, ◌||◌, List, length, get_or, Option, Some, None, refl, sym, ap, subst, ◌∙◌, arith}
-use Rattle.std.specs.Prelude.{is_some, Result, Ok, Err, IfErr, OnOk}
+use Rattle.std.specs.Prelude.{is_some, Result, Ok, Err, IfErr, OnErr, OnOk}
 use Rattle.std.specs.FinMap.{remove}
 use Rattle.std.proofs.lemmas.Bool.{leb-true}
 use Rattle.std.proofs.lemmas.Slice.Eq.{bytes_eq-Decides}
@@ -20,19 +20,23 @@ use Rattle.gd_file_laws.proofs.Lists.{bool_cases}
 use Rattle.gd_map_laws.specs.Find.{is_slot_of}
 use Rattle.gd_map_laws.specs.Maps.{PairMap, pair_map}
 use Rattle.gd_lookup.specs.Finding.{IsKeySlot, IsKeyAbsent}
-use Rattle.gd_lookup.specs.Reading.{is_of_read, LiesIn, RefusesRead, value_in}
+use Rattle.gd_open.specs.Reading.{is_of_read, RefusesRead}
+use Rattle.gd_lookup.specs.Reading.{LiesIn, value_in}
 use Rattle.gd_vault.specs.Content.{File, Content}
 use Rattle.gd_vault.specs.Frame.{Within}
 use Rattle.gd_vault.specs.Views.{View, HasFile, IsAt, OnlyAsks, content_of}
-use Rattle.gd_readable.proofs.Refusals.{refuses_map}
-use Rattle.gd_change.specs.Calls.{CanChange, Changes, Goes}
-use Rattle.gd_change.specs.KeepSound.{IsNext}
-use Rattle.gd_change.specs.Open.{IsHere, slot_key, slot_size}
-use Rattle.gd_change.specs.Open as change
-use Rattle.gd_change.proofs.Files as files
-use Rattle.gd_split.proofs.Chains.{one_file}
-use Rattle.gd_grow.specs.Growth.{IsWider}
-use Rattle.gd_grow.specs.Refusals.{is_growth_error}
+use Rattle.gd_readable.specs.Asks.{Counts}
+use Rattle.gd_readable.proofs.Refusals.{counts_from, refuses_map}
+use Rattle.gd_update.specs.Calls.{CanChange, Changes}
+use Rattle.gd_open.specs.Files.{FileBecomes}
+use Rattle.gd_update.specs.KeepSound.{IsNext}
+use Rattle.gd_update.specs.Open.{IsHere, slot_key, slot_size}
+use Rattle.gd_update.specs.Open as change
+use Rattle.gd_update.proofs.Files as files
+use Rattle.gd_open.proofs.Files.{still_there as still_in}
+use Rattle.gd_update.proofs.Chains.{one_file}
+use Rattle.gd_update.specs.Growth.{IsWider}
+use Rattle.gd_update.specs.GrowthRefusals.{is_growth_error}
 use Rattle.gd_space.specs.Effect.{TellsNone}
 use Rattle.gd_store.specs.declared.access.Access.{Access}
 use Rattle.gd_store.specs.declared.access.Access.TheVariants.{Writer}
@@ -148,21 +152,21 @@ removed u v w s s' t key at bucket bucket' q p same_store is asks access writer 
       file = n.file;
       told = n.told;
       there = ap n.content.files (sym file_is) ∙ n.there;
-      is = changed s' x.bytes n.file.bytes at bucket' key (remove (pair_map (records x.bytes)) key) 32 mine
-          (subst (λ (k : List ℕ). IsNext x.bytes n.file.bytes s'.header s'.table at bucket' k (remove (pair_map (records x.bytes)) k) 32) same n.is);
+      holds = changed s' x.bytes n.file.bytes at bucket' key (remove (pair_map (records x.bytes)) key) 32 mine
+          (subst (λ (k : List ℕ). IsNext x.bytes n.file.bytes s'.header s'.table at bucket' k (remove (pair_map (records x.bytes)) k) 32) same n.holds);
     }
 
 -- ---- what is there afterwards
 
 -- what was made is there at the next call
-pub goes_there : {mine : ℕ → Type 0} {named : List ℕ → Type 0} (u v : View) (f : ℕ) (R : List ℕ → List ℕ → Type 0) → Within mine named u v → HasFile u f → Goes u v f R
+pub goes_there : {mine : ℕ → Type 0} {named : List ℕ → Type 0} (u v : View) (f : ℕ) (R : List ℕ → List ℕ → Type 0) → Within mine named u v → HasFile u f → FileBecomes u v f R
     → (d : Content) (y : File) → content_of v.told ≡ Some d → d.files f ≡ Some y → (x : List ℕ) × R x y.bytes
 goes_there u v f R frame has goes d y told there =
-    let old = files.told_before u v d frame told in
+    let old = files.told_first u v d frame told in
     let x = has old.0 old.1 in
     let n = goes old.0 x.0 old.1 x.1 in
     let same : n.file ≡ y = one_file v f n.content d n.file y n.told n.there told there in
-    (x.0.bytes, subst (λ (z : File). R x.0.bytes z.bytes) same n.is)
+    (x.0.bytes, subst (λ (z : File). R x.0.bytes z.bytes) same n.holds)
 
 -- whether it is broken says nothing of the file
 open_as : (s : Opened) (b : Bool) (file : List ℕ) → IsOpenOn s file → IsOpenOn (record s { broken = b }) file
@@ -176,7 +180,7 @@ becomes_as u w f s t b map more same becomes = λ c x told there.
       file = n.file;
       told = n.told;
       there = n.there;
-      is = subst (λ (o : Opened). IsChanged (record o { broken = b }) (map x.bytes) (more x.bytes) x.bytes n.file.bytes) (sym same) (record { is_open = open_as s b n.file.bytes n.is.is_open; map_is = n.is.map_is; lost = n.is.lost });
+      holds = subst (λ (o : Opened). IsChanged (record o { broken = b }) (map x.bytes) (more x.bytes) x.bytes n.file.bytes) (sym same) (record { is_open = open_as s b n.file.bytes n.holds.is_open; map_is = n.holds.map_is; lost = n.holds.lost });
     }
 
 not_fault : (e : DbError) → is_fault_of e ≡ false → e ≢ VaultFault
@@ -187,7 +191,7 @@ fits_now : {T : Type 0} {mine : ℕ → Type 0} {named : List ℕ → Type 0} (r
     → OnFile w s.file (IsOpenOn s1)
 fits_now (Ok t) u w s s1 map more frame has fits whole calm becomes kept = λ d y told there. (goes_there u w s.file (λ x z. IsChanged s1 (map x) (more x) x z) frame has becomes d y told there).1.is_open
 fits_now (Err e) u w s s1 map more frame has fits whole calm becomes kept = λ d y told there.
-    let old = files.told_before u w d frame told in
+    let old = files.told_first u w d frame told in
     let k = kept (not_fault e calm) old.0 old.1 in
     subst (λ (o : Opened). IsOpenOn o y.bytes) (sym k.0) (fits whole d y (told_before u w d k.1 told) there)
 
@@ -231,6 +235,48 @@ fault_is ClockFault h = absurd cc
 fault_is OutOfMemory h = absurd cc
 fault_is (ClockStood o n) h = absurd cc
 
+-- an error counts as a fault of the vault, or not at all
+pub counts_of : (e : DbError) (a b : ℕ) → (e ≡ VaultFault → Rose a b) → (e ≢ VaultFault → b ≡ a) → Counts e a b
+counts_of Absent a b rose stays = stays (λ is. cc)
+counts_of BlockSize a b rose stays = stays (λ is. cc)
+counts_of ShortFile a b rose stays = stays (λ is. cc)
+counts_of BadMagic a b rose stays = stays (λ is. cc)
+counts_of ByteSwapped a b rose stays = stays (λ is. cc)
+counts_of WrongOffset a b rose stays = stays (λ is. cc)
+counts_of BadHeader a b rose stays = stays (λ is. cc)
+counts_of (BadDirEntry i) a b rose stays = stays (λ is. cc)
+counts_of (BadBucket k) a b rose stays = stays (λ is. cc)
+counts_of (BadHashTable k) a b rose stays = stays (λ is. cc)
+counts_of (BadHashEntry k s) a b rose stays = stays (λ is. cc)
+counts_of (BadAvail k) a b rose stays = stays (λ is. cc)
+counts_of NeedRecovery a b rose stays = stays (λ is. cc)
+counts_of ReaderCant a b rose stays = stays (λ is. cc)
+counts_of ItemNotFound a b rose stays = stays (λ is. cc)
+counts_of CannotReplace a b rose stays = stays (λ is. cc)
+counts_of DirOverflow a b rose stays = stays (λ is. cc)
+counts_of TooLarge a b rose stays = stays (λ is. cc)
+counts_of FileFull a b rose stays = stays (λ is. cc)
+counts_of (Exists w) a b rose stays = stays (λ is. cc)
+counts_of InUse a b rose stays = stays (λ is. cc)
+counts_of NotNumsync a b rose stays = stays (λ is. cc)
+counts_of AlreadyAtomic a b rose stays = stays (λ is. cc)
+counts_of SameName a b rose stays = stays (λ is. cc)
+counts_of InEpoch a b rose stays = stays (λ is. cc)
+counts_of NotOpen a b rose stays = stays (λ is. cc)
+counts_of VaultFault a b rose stays = rose refl
+counts_of ClockFault a b rose stays = stays (λ is. cc)
+counts_of OutOfMemory a b rose stays = stays (λ is. cc)
+counts_of (ClockStood o n) a b rose stays = stays (λ is. cc)
+
+-- so of the last call of several, before which the count stood
+pub counts_last : {T : Type 0} (r : Result T DbError) (a b c : ℕ) → b ≡ a → IfErr r (λ e. e ≡ VaultFault → Rose b c) → IfErr r (λ e. e ≢ VaultFault → c ≡ b) → IfErr r (λ e. Counts e a c)
+counts_last (Ok t) a b c same rose stays = tt
+counts_last (Err e) a b c same rose stays = counts_from e a b c (counts_of e b c rose stays) same
+
+pub counts_fault : {T : Type 0} (r : Result T DbError) (a b c : ℕ) → b ≡ a → IfErr r (λ e. e ≡ VaultFault) → OnErr r (Rose b c) → IfErr r (λ e. Counts e a c)
+counts_fault (Ok t) a b c same is rose = tt
+counts_fault (Err e) a b c same is rose = counts_from e a b c (rw is rose) same
+
 -- a refused call leaves the database as it was, and not broken
 pub kept_as : {T : Type 0} (r : Result T DbError) (u w : View) (s s1 t : Opened) (b : Bool) → t ≡ s1 → b ≡ is_fault r → s.broken ≡ false
     → IfErr r (λ e. e ≢ VaultFault → IsAt u (λ _. (s1 ≡ s) × OnlyAsks u w)) → IfErr r (λ e. e ≢ VaultFault → IsAt u (λ _. (record t { broken = b } ≡ s) × OnlyAsks u w))
@@ -242,7 +288,7 @@ kept_as (Err e) u w s s1 o b same is whole kept = λ other k told.
     (ap (λ (x : Opened). record x { broken = b }) (same ∙ h.0) ∙ ap (λ (y : Bool). record s { broken = y }) now, h.1)
 
 pub there_after : {mine : ℕ → Type 0} {named : List ℕ → Type 0} (u w : View) (f g : ℕ) → Within mine named u w → HasFile u f → g ≡ f → HasFile w g
-there_after u w f g frame has same = subst (λ (k : ℕ). HasFile w k) (sym same) (files.still_there u w f frame has)
+there_after u w f g frame has same = subst (λ (k : ℕ). HasFile w k) (sym same) (still_in f frame has)
 
 -- ---- answers
 

@@ -13,7 +13,7 @@ use Rattle.gd_vault.specs.Views.{View, Told, HasFile, Asked, content_of}
 use Rattle.gd_vault.specs.Views.Told.{Nothing, Tells, Records}
 use Rattle.gd_vault.specs.Changes.{Changed, Creates, TellsAfter}
 use Rattle.gd_create.specs.Stands.{Stands}
-use Rattle.gd_change.proofs.Files.{told_before}
+use Rattle.gd_update.proofs.Files.{told_first}
 use Rattle.gd_store.specs.Opened.{IsCleared, cleared, named_in}
 
 -- what a call makes of the content that was told
@@ -86,7 +86,7 @@ created_clears asked u v w name o f none at a made c d before after =
 pub made_cleared : {mine : ℕ → Type 0} {named : List ℕ → Type 0} (u v w : View) (name : List ℕ) (f : ℕ) (new : List ℕ) → IsCleared u v name f [] → Within mine named v w
     → ((x : File) → Stands v f x → x.bytes ≡ [] → Stands w f (record x { bytes = new })) → IsCleared u w name f new
 made_cleared u v w name f new is frame made c d before after =
-    let mid = told_before v w d frame after in
+    let mid = told_first v w d frame after in
     let there = is c mid.0 before mid.1 in
     let st = made (record (cleared (named_in c name)) { bytes = [] }) (record { content = mid.0; told = mid.1; there = there }) refl in
     let one : st.content ≡ d = (let s : Some st.content ≡ Some d = sym st.told ∙ after in cc) in

@@ -19,7 +19,8 @@ use Rattle.gd_vault.specs.Changes.{Changed, Creates, ExistsWhere, TellsAfter}
 use Rattle.gd_vault.proofs.Within.{within_trans, within_changed, within_asked, within_truncate}
 use Rattle.gd_vault.proofs.Content.{content_step}
 use Rattle.gd_vault.proofs.FrameLeft.{along_reads_file, frame_reads}
-use Rattle.gd_change.proofs.Files.{still_there, told_before}
+use Rattle.gd_open.proofs.Files.{still_there}
+use Rattle.gd_update.proofs.Files.{told_first}
 use Rattle.gd_store.specs.Opened.{Opened, Fits, IsOwn, NamesOwn, StandsFor, StandsOrBegins}
 
 -- a frame goes on over calls on a file that is its own, or that was not there at its start
@@ -121,7 +122,7 @@ frame_names mine named (Records first es) new c d n h other before after =
 
 pub stands_still : {mine : ℕ → Type 0} (u v : View) (name : List ℕ) (f : ℕ) → Within mine NoName u v → StandsFor u name f → StandsFor v name f
 stands_still {mine = mine} u v name f w at d told =
-    let before = told_before u v d w told in
+    let before = told_first u v d w told in
     frame_names mine NoName u.told v.told before.0 d name w.told (λ h. h) before.1 told ∙ at before.0 before.1
 
 -- ---- the own file, and what the name stands for
@@ -185,7 +186,7 @@ names_own_nothing u name c d before after = inl (ap (λ (k : Content). k.names n
 -- over calls on a file
 pub names_own_still : {mine : ℕ → Type 0} (u v w : View) (name : List ℕ) → NamesOwn u v name → Within mine NoName v w → NamesOwn u w name
 names_own_still {mine = mine} u v w name own frame c d before after =
-    let mid = told_before v w d frame after in
+    let mid = told_first v w d frame after in
     let same : d.names name ≡ mid.0.names name = frame_names mine NoName v.told w.told mid.0 d name frame.told (λ h. h) mid.1 after in
     ⊎_elim (λ (h : mid.0.names name ≡ c.names name). inl (same ∙ h)) (λ (h : (c.names name ≡ None) × ((f : ℕ) × (mid.0.names name ≡ Some f) × (c.files f ≡ None))). inr (h.0, (h.1.0, same ∙ h.1.1, h.1.2))) (own c mid.0 before mid.1)
 
@@ -212,4 +213,4 @@ stays_told mine named (Records first es) new f other frame d y has is here =
 
 pub fits_still : (mine : ℕ → Type 0) (named : List ℕ → Type 0) (u v : View) (s : Opened) → (mine s.file → ⊥) → Within mine named u v → HasFile u s.file → Fits u s → HasFile v s.file × Fits v s
 fits_still mine named u v s other frame has fits =
-    (still_there u v s.file frame has, λ whole d y is here. (let old = stays_told mine named u.told v.told s.file other frame.told d y has is here in fits whole old.0 y old.1 old.2))
+    (still_there s.file frame has, λ whole d y is here. (let old = stays_told mine named u.told v.told s.file other frame.told d y has is here in fits whole old.0 y old.1 old.2))

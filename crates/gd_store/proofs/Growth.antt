@@ -17,10 +17,10 @@ use Rattle.gd_space.specs.Calls.{OnTable, growth_of}
 use Rattle.gd_space.specs.Effect.{WritesAtMost, is_taken_back, table_after}
 use Rattle.gd_space.specs.Sizes.{largest}
 use Rattle.gd_space.proofs.Elements.{largest-append}
-use Rattle.gd_change.specs.Calls.{Goes}
-use Rattle.gd_change.specs.Open.{IsHere}
-use Rattle.gd_change.proofs.Gone.{open_blocks}
-use Rattle.gd_split.proofs.Chains.{one_file}
+use Rattle.gd_open.specs.Files.{FileBecomes}
+use Rattle.gd_update.specs.Open.{IsHere}
+use Rattle.gd_update.proofs.Gone.{open_blocks}
+use Rattle.gd_update.proofs.Chains.{one_file}
 use Rattle.gd_store.specs.Changed.{FindsRoom, IsReady, has_slot, key_free}
 use Rattle.gd_store.specs.Opened.{Opened, OnFile}
 use Rattle.gd_store.proofs.Asking.{asks_more}
@@ -44,7 +44,7 @@ own_free file h at bucket key e here =
     ∙ ap (λ (a : ℕ). (bucket_at (bytes_at file a h.block) h.elems).free) here.place_is
     ∙ ap (λ (k : Header). (bucket_at (bytes_at file (natural (entry_at file k (index_of k key))) k.block) k.elems).free) e
 
-module _ (u v w : View) (s t r q : Opened) (g : ℕ) (key : List ℕ) (hash at : ℕ) (bucket : Bucket) (p p' : Option ℕ) (at' : ℕ) (bucket' : Bucket) (n next : ℕ) (f : IsFound u s key hash at bucket p) (asks : OnlyAsks u v) (same : t ≡ s) (few : OnFile v t.file (λ file. has_slot file key ≡ true → (r ≡ t) × OnlyAsks v w)) (ready : Goes v w t.file (λ xs ys. IsReady xs ys r.header r.table at' bucket' key p')) (place : p' ≡ p) (file_is : g ≡ s.file) (own : q ≡ r) where
+module _ (u v w : View) (s t r q : Opened) (g : ℕ) (key : List ℕ) (hash at : ℕ) (bucket : Bucket) (p p' : Option ℕ) (at' : ℕ) (bucket' : Bucket) (n next : ℕ) (f : IsFound u s key hash at bucket p) (asks : OnlyAsks u v) (same : t ≡ s) (few : OnFile v t.file (λ file. has_slot file key ≡ true → (r ≡ t) × OnlyAsks v w)) (ready : FileBecomes v w t.file (λ xs ys. IsReady xs ys r.header r.table at' bucket' key p')) (place : p' ≡ p) (file_is : g ≡ s.file) (own : q ≡ r) where
   pub grows_not : (p' ≡ None → OnTable w g q.header q.table.next_block q.table.extents bucket'.free (λ table. next ≡ q.header.next_block + growth_of n q.header table bucket'.free)) → OnFile u s.file (λ file. FindsRoom file s.table key n → next ≡ s.header.next_block)
   grows_not grown k x told there room =
       let none : p ≡ None = none_of p (place_tells x.bytes key bucket p (f.found k x told there).place ∙ ap is_some room.absent) in
@@ -55,7 +55,7 @@ module _ (u v w : View) (s t r q : Opened) (g : ℕ) (key : List ℕ) (hash at :
       let later : content_of w.told ≡ Some k = ap content_of kept.1.told ∙ now in
       let y = ready k x now at_t in
       let one : y.file ≡ x = one_file w t.file y.content k y.file x y.told y.there later at_t in
-      let is : IsReady x.bytes x.bytes r.header r.table at' bucket' key p' = subst (λ (z : File). IsReady x.bytes z.bytes r.header r.table at' bucket' key p') one y.is in
+      let is : IsReady x.bytes x.bytes r.header r.table at' bucket' key p' = subst (λ (z : File). IsReady x.bytes z.bytes r.header r.table at' bucket' key p') one y.holds in
       let mine : IsReady x.bytes x.bytes q.header q.table at' bucket' key p' = subst (λ (o : Opened). IsReady x.bytes x.bytes o.header o.table at' bucket' key p') (sym own) is in
       let blocks = open_blocks x.bytes q.header q.table at' bucket' key mine.still_open mine.here in
       let e = grown (place ∙ none) k x blocks.0 later (ap k.files file_is ∙ there) blocks.1.side in

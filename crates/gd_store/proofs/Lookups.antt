@@ -14,10 +14,10 @@ use Rattle.gd_format.specs.File.{entry_at, records}
 use Rattle.gd_map_laws.specs.Lookup.{index_of}
 use Rattle.gd_vault.specs.Views.{View, OnlyAsks}
 use Rattle.gd_lookup.specs.Finding.{IsKeyAbsent, IsKeyBucket, IsKeySlot, OfKey}
-use Rattle.gd_lookup.specs.Open.{AtFile, OfFile}
+use Rattle.gd_open.specs.Files.{AtFile, OfFile}
 use Rattle.gd_lookup.specs.Reading.{LiesIn, value_in}
 use Rattle.gd_lookup.proofs.Keys.{key_bucket}
-use Rattle.gd_lookup.proofs.Opens.{at_file_stays, at_file_was, of_file_stays}
+use Rattle.gd_open.proofs.Opens.{at_file_stays, at_file_was, of_file_stays}
 use Rattle.gd_store.specs.Located.{IsFoundIn, IsPlaceOf}
 use Rattle.gd_store.specs.Opened.{Opened, OnFile}
 use Rattle.gd_store.specs.Replies.{value_of, absent_due, RefusedAsking}

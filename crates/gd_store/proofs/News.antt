@@ -17,7 +17,8 @@ use Rattle.gd_create.specs.Laws.{IsNew}
 use Rattle.gd_create.specs.Stands.{Stands}
 use Rattle.gd_create.proofs.News.{is_new}
 use Rattle.gd_create.proofs.Powers.{fits, is_header}
-use Rattle.gd_change.proofs.Files.{told_before, same_file}
+use Rattle.gd_update.proofs.Files.{told_first}
+use Rattle.gd_update.proofs.Chains.{one_file}
 use Rattle.gd_store.specs.declared.access.Access.TheVariants.{Writer}
 use Rattle.gd_store.specs.Opened.{OnFile, IsRightFor}
 
@@ -42,10 +43,10 @@ new_of h n = subst (IsNew (new_file h.format h.block h.dir_bits)) (sym n.fields)
 pub made_bytes : {mine : ℕ → Type 0} {named : List ℕ → Type 0} (v w : View) (f : ℕ) (new : List ℕ) → HasFile v f → OnFile v f (λ file. file ≡ []) → Within mine named v w
     → ((x : File) → Stands v f x → x.bytes ≡ [] → Stands w f (record x { bytes = new })) → OnFile w f (λ file. file ≡ new)
 made_bytes v w f new has empty frame made c x told there =
-    let before = told_before v w c frame told in
+    let before = told_first v w c frame told in
     let y = has before.0 before.1 in
     let st = made y.0 (record { content = before.0; told = before.1; there = y.1 }) (empty before.0 y.0 before.1 y.1) in
-    let same : x ≡ record y.0 { bytes = new } = same_file w f c st.content x (record y.0 { bytes = new }) told st.told there st.there in
+    let same : x ≡ record y.0 { bytes = new } = one_file w f c st.content x (record y.0 { bytes = new }) told there st.told st.there in
     ap (λ (z : File). z.bytes) same
 
 pub record MadeFile (h : Header) (table : Avail) (file : List ℕ) : Type 0 where

@@ -27,18 +27,19 @@ use Rattle.gd_map_laws.proofs.Find.{absent_by_count}
 use Rattle.gd_map_laws.proofs.Lookup.{index_below, lookup_exact}
 use Rattle.gd_map_laws.proofs.Maps.{by_lookup}
 use Rattle.gd_map_laws.proofs.Overflow.{overflow_law}
+use Rattle.gd_readable.specs.Asks.{Counts}
 use Rattle.gd_lookup.specs.Finding.{key_slots}
-use Rattle.gd_lookup.specs.Open as asking
-use Rattle.gd_lookup.proofs.Blocks.{open_header, entry_is}
+use Rattle.gd_open.specs.Files as asking
+use Rattle.gd_open.proofs.Blocks.{open_header, entry_is}
 use Rattle.gd_vault.specs.Content.{File}
 use Rattle.gd_vault.specs.Frame.{Within}
 use Rattle.gd_vault.specs.Views.{View, HasFile, IsAt, OnlyAsks, content_of}
-use Rattle.gd_change.specs.Calls.{CanChange, Changes, Goes}
-use Rattle.gd_change.specs.Open as change
-use Rattle.gd_change.proofs.Gone.{open_value}
-use Rattle.gd_split.specs.Held.{IsBucketOf, HasBucket}
-use Rattle.gd_split.specs.Turns.{Turns}
-use Rattle.gd_grow.specs.Growth.{IsRoomMade}
+use Rattle.gd_update.specs.Calls.{CanChange, Changes}
+use Rattle.gd_open.specs.Files.{FileBecomes}
+use Rattle.gd_update.specs.Open as change
+use Rattle.gd_update.proofs.Gone.{open_value}
+use Rattle.gd_update.specs.Held.{IsBucketOf, HasBucket}
+use Rattle.gd_update.specs.Growth.{IsRoomMade}
 use Rattle.gd_store.specs.declared.access.Access.TheVariants.{Writer}
 use Rattle.gd_store.specs.declared.access.How.{How}
 use Rattle.gd_store.specs.declared.access.How.TheVariants.{Insert, Replace}
@@ -79,6 +80,15 @@ due_refused Insert None true e f u w due is told = let same : DirOverflow ≡ e 
 due_refused Insert None false e f u w due is told = absurd cc
 due_refused Replace None true e f u w due is told = let same : DirOverflow ≡ e = cc in subst (λ (d : DbError). RefusedStoring d f u w due) same (record { kind = refl; cause = λ k y at there. told k y at there ∙ ap Some (sym same) })
 due_refused Replace None false e f u w due is told = absurd cc
+
+-- what is due by the key counts as no fault
+pub due_counts : (how : How) (a : Option ℕ) (x : Bool) (e : DbError) (before now : ℕ) → key_due how a x ≡ Some e → now ≡ before → Counts e before now
+due_counts Insert (Some p) x e before now is same = let why : CannotReplace ≡ e = cc in subst (λ (d : DbError). Counts d before now) why same
+due_counts Replace (Some p) x e before now is same = absurd cc
+due_counts Insert None true e before now is same = let why : DirOverflow ≡ e = cc in subst (λ (d : DbError). Counts d before now) why same
+due_counts Insert None false e before now is same = absurd cc
+due_counts Replace None true e before now is same = let why : DirOverflow ≡ e = cc in subst (λ (d : DbError). Counts d before now) why same
+due_counts Replace None false e before now is same = absurd cc
 
 pub none_of : {A : Type 0} (o : Option A) → is_some o ≡ false → o ≡ None
 none_of None e = refl
@@ -179,24 +189,24 @@ losses file key = bool_cases (has_slot file key) (λ t. rw t (omega arith)) (λ 
 
 -- the pair was put
 pub stored : (u v w : View) (f : ℕ) (s' : Opened) (h1 : Header) (table1 : Avail) (key value : List ℕ) (at : ℕ) (bucket bucket' : Bucket) (p : Option ℕ) → s'.access ≡ Writer
-    → Goes u v f (λ x y. IsReady x y h1 table1 at bucket key p)
+    → FileBecomes u v f (λ x y. IsReady x y h1 table1 at bucket key p)
     → Changes v w f s'.header s'.table at bucket' (λ x. key) (λ x. insert (pair_map (records x)) key value) 64
     → Becomes u w f s' (λ file. insert (pair_map (records file)) key value) (λ file. store_loss file key)
 stored u v w f s' h1 table1 key value at bucket bucket' p writer ready changes = λ c x told there.
     let r = ready c x told there in
     let n = changes r.content r.file r.told r.there in
-    let done = changed s' r.file.bytes n.file.bytes at bucket' key (insert (pair_map (records r.file.bytes)) key value) 64 writer n.is in
-    let a = r.is.lost in
-    let b = n.is.lost in
+    let done = changed s' r.file.bytes n.file.bytes at bucket' key (insert (pair_map (records r.file.bytes)) key value) 64 writer n.holds in
+    let a = r.holds.lost in
+    let b = n.holds.lost in
     let l = losses x.bytes key in
     record {
       content = n.content;
       file = n.file;
       told = n.told;
       there = n.there;
-      is = record {
+      holds = record {
         is_open = done.is_open;
-        map_is = done.map_is ∙ ap (λ (m : PairMap). insert m key value) r.is.map;
+        map_is = done.map_is ∙ ap (λ (m : PairMap). insert m key value) r.holds.map;
         lost = omega (arith, a, b, l);
       };
     }
@@ -213,8 +223,8 @@ open_for u s t same h = subst (λ (o : Opened). IsAt u (λ k. (x : File) → k.f
 pub bucket_for : (u : View) (s t : Opened) (hash at : ℕ) (bucket : Bucket) → t ≡ s → HasBucket u s.file s.header hash at bucket → HasBucket u t.file t.header hash at bucket
 bucket_for u s t hash at bucket same h = subst (λ (o : Opened). HasBucket u o.file o.header hash at bucket) (sym same) h
 
-pub turns_for : (u w : View) (f g : ℕ) (R : List ℕ → List ℕ → Type 0) → g ≡ f → Turns u w g R → Turns u w f R
-turns_for u w f g R same h = subst (λ (k : ℕ). Turns u w k R) same h
+pub becomes_for : (u w : View) (f g : ℕ) (R : List ℕ → List ℕ → Type 0) → g ≡ f → FileBecomes u w g R → FileBecomes u w f R
+becomes_for u w f g R same h = subst (λ (k : ℕ). FileBecomes u w k R) same h
 
 pub room_open : (u : View) (s : Opened) → Fits u s → s.broken ≡ false → s.access ≡ Writer → IsAt u (λ k. (x : File) → k.files s.file ≡ Some x → change.IsOpen x.bytes s.header s.table)
 room_open u s fits whole writer k told x there = may_change s x.bytes (fits whole k x told there) writer
@@ -232,18 +242,18 @@ module _ (u : View) (s : Opened) (key : List ℕ) (hash at : ℕ) (bucket : Buck
   room_bucket k x told there = subst (λ (n : ℕ). IsBucketOf x.bytes s.header n at bucket) (sym f.hash_is) (has_bucket x.bytes s.header key at bucket p (f.fits f.whole k x told there).header (f.found k x told there))
 
   pub ready_after : (w : View) (h' : Header) (table' : Avail) (at' : ℕ) (bucket' : Bucket) (p' : Option ℕ) → p ≡ None → p' ≡ p → count is_full bucket.slots ≡ length bucket.slots
-      → Turns u w s.file (λ xs ys. IsRoomMade xs ys h' table' hash at' bucket') → Goes u w s.file (λ xs ys. IsReady xs ys h' table' at' bucket' key p')
+      → FileBecomes u w s.file (λ xs ys. IsRoomMade xs ys h' table' hash at' bucket') → FileBecomes u w s.file (λ xs ys. IsReady xs ys h' table' at' bucket' key p')
   ready_after w h' table' at' bucket' p' none same full turns k x told there =
       let t = turns k x told there in
       let made = subst (λ (n : ℕ). IsRoomMade x.bytes t.file.bytes h' table' n at' bucket') f.hash_is t.holds in
       let r = ready_split x.bytes t.file.bytes s.header h' table' key at at' bucket bucket' p (f.fits f.whole k x told there).header (f.found k x told there) f.elems none full made in
-      record { content = t.content; file = t.file; told = t.told; there = t.there; is = subst (λ (q : Option ℕ). IsReady x.bytes t.file.bytes h' table' at' bucket' key q) (sym same) r }
+      record { content = t.content; file = t.file; told = t.told; there = t.there; holds = subst (λ (q : Option ℕ). IsReady x.bytes t.file.bytes h' table' at' bucket' key q) (sym same) r }
 
   pub slot_lacks : p ≡ None → count is_full bucket.slots ≡ length bucket.slots → OnFile u s.file (λ file. has_slot file key ≡ false)
   slot_lacks none full k x told there = no_slot x.bytes s.header key at bucket p (f.fits f.whole k x told there).header (f.found k x told there) f.elems none full
 
-  pub ready_here : s.access ≡ Writer → Goes u u s.file (λ xs ys. IsReady xs ys s.header s.table at bucket key p)
-  ready_here writer k x told there = record { content = k; file = x; told = told; there = there; is = ready_now s x.bytes key at bucket p (f.fits f.whole k x told there) writer (f.found k x told there) }
+  pub ready_here : s.access ≡ Writer → FileBecomes u u s.file (λ xs ys. IsReady xs ys s.header s.table at bucket key p)
+  ready_here writer k x told there = record { content = k; file = x; told = told; there = there; holds = ready_now s x.bytes key at bucket p (f.fits f.whole k x told there) writer (f.found k x told there) }
 
   -- what is due, by what was seen
   pub due_told : (how : How) (next : ℕ) (value : List ℕ)
@@ -281,7 +291,7 @@ found_asked u v s t key at bucket p same asks found = subst (λ (o : Opened). On
 
 -- what was made ready may be changed
 pub can_put : {mine : ℕ → Type 0} {named : List ℕ → Type 0} (v w : View) (f : ℕ) (s t : Opened) (key : List ℕ) (at : ℕ) (bucket : Bucket) (p : Option ℕ) → Within mine named v w → HasFile v f → t ≡ s → s.file ≡ f
-    → Goes v w f (λ xs ys. IsReady xs ys s.header s.table at bucket key p) → CanChange w t.file t.header t.table at bucket (λ x. key)
+    → FileBecomes v w f (λ xs ys. IsReady xs ys s.header s.table at bucket key p) → CanChange w t.file t.header t.table at bucket (λ x. key)
 can_put v w f s t key at bucket p frame has same file_is goes =
     subst (λ (o : Opened). CanChange w o.file o.header o.table at bucket (λ x. key)) (sym same)
     (λ d y told there.
@@ -289,15 +299,15 @@ can_put v w f s t key at bucket p frame has same file_is goes =
     (r.1.still_open, r.1.here))
 
 pub put_place : {mine : ℕ → Type 0} {named : List ℕ → Type 0} (v w : View) (f g : ℕ) (h : Header) (table : Avail) (key : List ℕ) (at : ℕ) (bucket : Bucket) (p : Option ℕ) → Within mine named v w → HasFile v f → g ≡ f
-    → Goes v w f (λ xs ys. IsReady xs ys h table at bucket key p) → IsAt w (λ d. (y : File) → d.files g ≡ Some y → change.IsPlaceOf y.bytes bucket.slots key p)
+    → FileBecomes v w f (λ xs ys. IsReady xs ys h table at bucket key p) → IsAt w (λ d. (y : File) → d.files g ≡ Some y → change.IsPlaceOf y.bytes bucket.slots key p)
 put_place v w f g h table key at bucket p frame has same goes d told y there = (goes_there v w f (λ xs ys. IsReady xs ys h table at bucket key p) frame has goes d y told (ap d.files (sym same) ∙ there)).1.place_is
 
 -- after a look-up, room and a put
 pub stored_after : (u v w x : View) (f f1 f2 : ℕ) (s' : Opened) (h1 : Header) (table1 : Avail) (key value : List ℕ) (at : ℕ) (bucket bucket' : Bucket) (p : Option ℕ) → f1 ≡ f → f2 ≡ f → OnlyAsks u v → s'.access ≡ Writer
-    → Goes v w f1 (λ xs ys. IsReady xs ys h1 table1 at bucket key p)
+    → FileBecomes v w f1 (λ xs ys. IsReady xs ys h1 table1 at bucket key p)
     → Changes w x f2 s'.header s'.table at bucket' (λ y. key) (λ y. insert (pair_map (records y)) key value) 64
     → Becomes u x f s' (λ file. insert (pair_map (records file)) key value) (λ file. store_loss file key)
 stored_after u v w x f f1 f2 s' h1 table1 key value at bucket bucket' p first second asks writer ready changes =
     stored u w x f s' h1 table1 key value at bucket bucket' p writer
-    (λ k y told there. subst (λ (n : ℕ). Goes v w n (λ xs ys. IsReady xs ys h1 table1 at bucket key p)) first ready k y (ap content_of asks.told ∙ told) there)
+    (λ k y told there. subst (λ (n : ℕ). FileBecomes v w n (λ xs ys. IsReady xs ys h1 table1 at bucket key p)) first ready k y (ap content_of asks.told ∙ told) there)
     (subst (λ (n : ℕ). Changes w x n s'.header s'.table at bucket' (λ y. key) (λ y. insert (pair_map (records y)) key value) 64) second changes)

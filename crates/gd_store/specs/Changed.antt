@@ -6,9 +6,9 @@ use Rattle.gd_format.specs.declared.Header.{Header}
 use Rattle.gd_format.specs.Avail.{Avail}
 use Rattle.gd_format.specs.Bucket.{Bucket, bucket_at}
 use Rattle.gd_format.specs.declared.Extent.{Extent}
-use Rattle.gd_change.specs.Open as change
-use Rattle.gd_grow.specs.Growth.{IsWider}
-use Rattle.gd_grow.specs.Refusals.{is_growth_error}
+use Rattle.gd_update.specs.Open as change
+use Rattle.gd_update.specs.Growth.{IsWider}
+use Rattle.gd_update.specs.GrowthRefusals.{is_growth_error}
 use Rattle.gd_format.specs.File.{block_of, records}
 use Rattle.gd_format.specs.Sound.{lost_total}
 use Rattle.gd_format.specs.Slots.{count, is_full}
@@ -19,7 +19,7 @@ use Rattle.gd_map_laws.specs.Lookup.{index_of}
 use Rattle.gd_map_laws.specs.Maps.{PairMap, pair_map}
 use Rattle.gd_space.specs.Sizes.{largest}
 use Rattle.gd_vault.specs.Views.{View}
-use Rattle.gd_change.specs.Calls.{Goes}
+use Rattle.gd_open.specs.Files.{FileBecomes}
 use Rattle.gd_store.specs.Opened.{Opened, IsOpenOn}
 
 -- a file afterwards: it is the database's, and its map and what is lost of it
@@ -31,7 +31,7 @@ pub record IsChanged (s : Opened) (map : PairMap) (more : ℕ) (old new : List �
 -- where the content is told, the file becomes one with a map, of which so many more bytes are lost at most; both go by the
 -- bytes before
 abbrev pub Becomes : (old new : View) (f : ℕ) (s : Opened) (map : List ℕ → PairMap) (more : List ℕ → ℕ) → Type 0
-Becomes old new f s map more = Goes old new f (λ x y. IsChanged s (map x) (more x) x y)
+Becomes old new f s map more = FileBecomes old new f (λ x y. IsChanged s (map x) (more x) x y)
 
 -- has a key a slot, or its bucket an empty one?
 abbrev pub has_slot : List ℕ → List ℕ → Bool

@@ -3,11 +3,12 @@
 ghost use Rattle.std.specs.Prelude.{◌≡◌, ◌≢◌, ◌⊎◌, ◌+◌, ◌*◌, ◌<◌, ◌≤◌, ◌^◌, ◌||◌, true, false, None, Some, IfOk, IfErr, OnOk, length, get_or};
 ghost use Rattle.std.specs.FinMap.{remove};
 ghost use Rattle.gd_base.specs.Causes.{Rose};
-ghost use Rattle.gd_change.specs.Open.{slot_size};
+ghost use Rattle.gd_update.specs.Open.{slot_size};
 ghost use Rattle.gd_format.specs.File.{records};
 ghost use Rattle.gd_map_laws.specs.Maps.{pair_map};
 ghost use Rattle.gd_space.specs.Effect.{WritesAtMost};
 ghost use Rattle.gd_vault.specs.Streams.{OnlyWrites};
+ghost use Rattle.gd_readable.specs.Asks.{Counts};
 ghost use Rattle.gd_vault.specs.Views.{HasFile, OnlyAsks};
 ghost use Rattle.gd_store.specs.Changed.{Becomes, Keeps};
 ghost use Rattle.gd_store.specs.Opened.{Fits, OnFile, SameButCached};
@@ -16,8 +17,8 @@ ghost use Rattle.gd_store.specs.Replies.{delete_due, is_fault, is_too_far, Refus
 use crate::access::Access;
 use crate::store::Store;
 use gd_base::DbError;
-use gd_change::remove;
 use gd_format::Slot;
+use gd_update::remove;
 use gd_vault::Vault;
 
 // How many bytes the record of a slot has.
@@ -68,24 +69,23 @@ impl Store {
         ensures growth { self.new.header.next_block ≤ self.old.header.next_block + 2 * self.old.header.block }
         ensures amount { WritesAtMost (3 * self.old.header.block) (V.view_of vault.old) (V.view_of vault.new) }
         ensures frame { OnlyWrites self.old.file (V.view_of vault.old) (V.view_of vault.new) }
+        ensures answered { OnOk result ((V.view_of vault.new).faults ≡ (V.view_of vault.old).faults) }
+        ensures counted { IfErr result (λ e. Counts e (V.view_of vault.old).faults (V.view_of vault.new).faults) }
     {
         let mut located = self.locate(vault, key)?;
         let Some(place) = located.place else {
             return Err(DbError::ItemNotFound);
         };
         let size = record_size(&located.bucket.slots()[place as usize]);
-        if is_too_far(self.header.next_block, size) {
+        if is_too_far(self.file.header().next_block, size) {
             return Err(DbError::FileFull);
         }
         remove(
+            &mut self.file,
             vault,
-            self.file,
-            &mut self.space,
-            &mut self.header,
             located.at,
             &mut located.bucket,
             place,
-            &mut self.block,
         )
     }
 
@@ -112,6 +112,8 @@ impl Store {
         ensures growth { self.new.header.next_block ≤ self.old.header.next_block + 2 * self.old.header.block }
         ensures amount { WritesAtMost (3 * self.old.header.block) (V.view_of vault.old) (V.view_of vault.new) }
         ensures frame { OnlyWrites self.old.file (V.view_of vault.old) (V.view_of vault.new) }
+        ensures answered { OnOk result ((V.view_of vault.new).faults ≡ (V.view_of vault.old).faults) }
+        ensures counted { IfErr result (λ e. Counts e (V.view_of vault.old).faults (V.view_of vault.new).faults) }
     {
         if self.broken {
             return Err(DbError::NeedRecovery);

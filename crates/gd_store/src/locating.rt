@@ -4,7 +4,7 @@ ghost use Rattle.std.specs.Prelude.{◌≡◌, ◌≤◌, ◌<◌, true, false, 
 ghost use Rattle.gd_format.specs.Hash.{hash_of};
 ghost use Rattle.gd_vault.specs.Views.{HasFile, OnlyAsks};
 ghost use Rattle.gd_lookup.specs.Finding.{IsCandidateAt};
-ghost use Rattle.gd_lookup.specs.Reading.{RefusesRead};
+ghost use Rattle.gd_open.specs.Reading.{RefusesRead};
 ghost use Rattle.gd_readable.specs.Asks.{Counts};
 ghost use Rattle.gd_store.specs.Opened.{Fits, OnFile};
 ghost use Rattle.gd_store.specs.Located.{IsFoundIn};
@@ -12,7 +12,7 @@ ghost use Rattle.gd_store.specs.Located.{IsFoundIn};
 use crate::store::Store;
 use gd_base::DbError;
 use gd_layout::{Bucket, hash};
-use gd_lookup::{bucket_address, bucket_at, find_key};
+use gd_lookup::{bucket_address, find_key};
 use gd_vault::Vault;
 
 // Where a key is looked for: the address of its bucket, the bucket, and the place of its slot.
@@ -41,16 +41,9 @@ impl Store {
         ensures refused { IfErr result (λ e. RefusesRead e (V.view_of vault.old) (V.view_of vault.new)) }
     {
         let hash = hash(key);
-        let at = bucket_address(vault, self.file, &self.header, hash)?;
-        let bucket = bucket_at(
-            self.alloc,
-            vault,
-            self.file,
-            &self.header,
-            at,
-            &mut self.block,
-        )?;
-        let place = find_key(vault, self.file, at, &bucket, hash, key)?;
+        let at = bucket_address(&self.file, vault, hash)?;
+        let bucket = self.file.read_bucket(self.alloc, vault, at)?;
+        let place = find_key(&self.file, vault, at, &bucket, hash, key)?;
         Ok(Located {
             at,
             hash,

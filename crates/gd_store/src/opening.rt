@@ -24,6 +24,7 @@ use crate::store::Store;
 use gd_base::{DbError, Format, Name, Which};
 use gd_create::{block_for, make_file, new_header};
 use gd_format::Header;
+use gd_open::OpenFile;
 use gd_readable::readable;
 use gd_space::{Space, SpaceError};
 use gd_vault::{CreateError, FileId, Mode, Vault};
@@ -90,6 +91,8 @@ fn loaded<V: Vault>(
     ensures table { IfOk result (λ s. IsAt (V.view_of vault.old) (λ c. (x : File) → c.files f.0 ≡ Some x → s.table ≡ avail_at (table_of x.bytes header.now) (most_of header.now))) }
     ensures refused { IfErr result (λ e. Refuses e (Rose (V.view_of vault.old).faults (V.view_of vault.new).faults) (OnFile (V.view_of vault.old) f.0 (λ file. header.now ≡ header_of (front_of file) → fault_for Access.Writer file ≢ None))) }
     ensures kind { IfErr result (λ e. IsAnswer (is_for Access.Writer) e) }
+    ensures answered { OnOk result ((V.view_of vault.new).faults ≡ (V.view_of vault.old).faults) }
+    ensures counted { IfErr result (λ e. Counts e (V.view_of vault.old).faults (V.view_of vault.new).faults) }
 {
     match Space::load(alloc, vault, f, header) {
         Ok(space) => Ok(space),
@@ -117,6 +120,8 @@ fn space_of<V: Vault>(
     ensures table { access ≡ Access.Writer → IfOk result (λ s. IsAt (V.view_of vault.old) (λ c. (x : File) → c.files f.0 ≡ Some x → s.table ≡ avail_at (table_of x.bytes header.now) (most_of header.now))) }
     ensures refused { IfErr result (λ e. Refuses e (Rose (V.view_of vault.old).faults (V.view_of vault.new).faults) (OnFile (V.view_of vault.old) f.0 (λ file. header.now ≡ header_of (front_of file) → fault_for access file ≢ None))) }
     ensures kind { IfErr result (λ e. IsAnswer (is_for access) e) }
+    ensures answered { OnOk result ((V.view_of vault.new).faults ≡ (V.view_of vault.old).faults) }
+    ensures counted { IfErr result (λ e. Counts e (V.view_of vault.old).faults (V.view_of vault.new).faults) }
     ensures reader { access ≡ Access.Reader → V.view_of vault.new ≡ V.view_of vault.old }
     ensures memory { access ≡ Access.Reader → IfErr result (λ e. e ≡ DbError.OutOfMemory) }
 {
@@ -140,6 +145,8 @@ fn emptied<V: Vault>(vault: &mut V, name: &Name) -> Result<FileId, DbError>
     ensures marks { MarksStay (V.view_of vault.old) (V.view_of vault.new) name.now }
     ensures error { IfErr result (λ e. (e ≡ DbError.VaultFault) ⊎ ((e ≡ DbError.Exists Which.Only) × (content_of (V.view_of vault.old).told ≡ None))) }
     ensures fault { IfErr result (λ e. e ≡ DbError.VaultFault → Rose (V.view_of vault.old).faults (V.view_of vault.new).faults) }
+    ensures answered { OnOk result ((V.view_of vault.new).faults ≡ (V.view_of vault.old).faults) }
+    ensures counted { IfErr result (λ e. Counts e (V.view_of vault.old).faults (V.view_of vault.new).faults) }
     ensures bytes_written { (V.view_of vault.new).bytes_written ≡ (V.view_of vault.old).bytes_written }
     ensures frame { Within (StandsFor (V.view_of vault.old) name.now) (λ n. n ≡ name.now) (V.view_of vault.old) (V.view_of vault.new) }
 {
@@ -186,6 +193,8 @@ impl Store {
         ensures bytes { IfOk result (λ s. OnFile (V.view_of vault.new) s.file (λ file. (file ≡ new_file format s.header.block s.header.dir_bits) × (records file ≡ []))) }
         ensures cleared { IfOk result (λ s. IsCleared (V.view_of vault.old) (V.view_of vault.new) name.now s.file (new_file format s.header.block s.header.dir_bits)) }
         ensures refused { IfErr result (λ e. Refuses e (Rose (V.view_of vault.old).faults (V.view_of vault.new).faults) ((e ≡ DbError.Exists Which.Only) × (content_of (V.view_of vault.old).told ≡ None))) }
+        ensures answered { OnOk result ((V.view_of vault.new).faults ≡ (V.view_of vault.old).faults) }
+        ensures counted { IfErr result (λ e. Counts e (V.view_of vault.old).faults (V.view_of vault.new).faults) }
         ensures memory { IfErr result (λ e. e ≡ DbError.OutOfMemory → OnlyAsks (V.view_of vault.old) (V.view_of vault.new)) }
         ensures frame { Within (StandsFor (V.view_of vault.old) name.now) (λ n. n ≡ name.now) (V.view_of vault.old) (V.view_of vault.new) }
     {
@@ -193,43 +202,25 @@ impl Store {
         let Some(space) = Space::empty(alloc, &header) else {
             return Err(DbError::OutOfMemory);
         };
-        let Ok(block) = vec![in alloc; 0u8; header.block as usize] else {
+        let Ok(mut block) = vec![in alloc; 0u8; header.block as usize] else {
             return Err(DbError::OutOfMemory);
         };
         let file = emptied(vault, name)?;
-        let mut store = Store {
+        make_file(vault, file, &header, &mut block)?;
+        Ok(Store {
             alloc,
-            file,
-            header,
-            space,
-            block,
+            file: OpenFile::new(file, header, space, block),
             access: Access::Writer,
             broken: false,
             cache,
-        };
-        store.write_new(vault)?;
-        Ok(store)
-    }
-
-    // Writes the blocks of a new file into the empty one.
-    fn write_new<V: Vault>(&mut self, vault: &mut V) -> Result<(), DbError>
-        requires file { HasFile (V.view_of vault.old) self.old.file }
-        requires new { IsNewHeader self.old.header }
-        ensures same { self.new ≡ self.old }
-        ensures made { OnOk result ((x : File) → Stands (V.view_of vault.old) self.old.file x → x.bytes ≡ [] → Stands (V.view_of vault.new) self.old.file (record x { bytes = new_file self.old.header.format self.old.header.block self.old.header.dir_bits })) }
-        ensures there { HasFile (V.view_of vault.new) self.old.file }
-        ensures error { IfErr result (λ e. e ≡ DbError.VaultFault) }
-        ensures fault { OnErr result (Rose (V.view_of vault.old).faults (V.view_of vault.new).faults) }
-        ensures frame { OnlyWrites self.old.file (V.view_of vault.old) (V.view_of vault.new) }
-    {
-        make_file(vault, self.file, &self.header, &mut self.block)
+        })
     }
 
     /// Opens the file for which a name stands, after checking all of it: one that is to be read has to be readable, and
     /// one that is to be written has to be sound.
     ///
     /// The refusals are `Absent`, before anything is read, the first refusal of the file, `VaultFault` and `OutOfMemory`,
-    /// and no others over any vault. Of a call that opens to read only `VaultFault` raises the count of faults.
+    /// and no others over any vault. `VaultFault` alone raises the count of faults.
     #[tactic(auto, using(crate::proofs::OpenFacts::named_answer, crate::proofs::OpenFacts::opening_answer, crate::proofs::OpenFacts::not_absent, gd_readable::proofs::Refusals::counts_from))]
     pub fn open_file<V: Vault>(
         alloc: Global,
@@ -247,8 +238,8 @@ impl Store {
         ensures refused { IfErr result (λ e. Refuses e (Rose (V.view_of vault.old).faults (V.view_of vault.new).faults) (IsAt (V.view_of vault.old) (λ c. open_due c name.now access ≡ Some e))) }
         ensures kind { IfErr result (λ e. IsAnswer (is_of_opening access) e) }
         ensures absent { IfErr result (λ e. e ≡ DbError.Absent → V.view_of vault.new ≡ V.view_of vault.old) }
-        ensures answered { access ≡ Access.Reader → OnOk result ((V.view_of vault.new).faults ≡ (V.view_of vault.old).faults) }
-        ensures counted { access ≡ Access.Reader → IfErr result (λ e. Counts e (V.view_of vault.old).faults (V.view_of vault.new).faults) }
+        ensures answered { OnOk result ((V.view_of vault.new).faults ≡ (V.view_of vault.old).faults) }
+        ensures counted { IfErr result (λ e. Counts e (V.view_of vault.old).faults (V.view_of vault.new).faults) }
     {
         let file = named_file(vault, name)?;
         let header = checked(alloc, vault, file, access)?;
@@ -258,10 +249,7 @@ impl Store {
         };
         Ok(Store {
             alloc,
-            file,
-            header,
-            space,
-            block,
+            file: OpenFile::new(file, header, space, block),
             access,
             broken: false,
             cache,
@@ -286,7 +274,7 @@ impl Store {
         if self.broken || self.access == Access::Reader {
             return Ok(());
         }
-        match vault.sync(self.file) {
+        match vault.sync(self.file.file()) {
             Ok(()) => Ok(()),
             Err(_) => Err(DbError::VaultFault),
         }

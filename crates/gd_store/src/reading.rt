@@ -4,7 +4,7 @@ ghost use Rattle.std.specs.Prelude.{◌≡◌, true, false, Some, IfOk, IfErr, l
 ghost use Rattle.gd_format.specs.File.{records};
 ghost use Rattle.gd_vault.specs.Views.{HasFile, OnlyAsks};
 ghost use Rattle.gd_lookup.specs.Order.{first_of, successor};
-ghost use Rattle.gd_lookup.specs.Reading.{RefusesRead};
+ghost use Rattle.gd_open.specs.Reading.{RefusesRead};
 ghost use Rattle.gd_readable.specs.Asks.{Counts};
 ghost use Rattle.gd_store.specs.Opened.{Fits, OnFile, SameButCached};
 ghost use Rattle.gd_store.specs.Replies.{value_of, absent_due, first_due, next_due, RefusedAsking, RefusedAtOnce};
@@ -36,7 +36,7 @@ impl Store {
             return Err(DbError::ItemNotFound);
         };
         let slot = &located.bucket.slots()[place as usize];
-        read_value(self.alloc, vault, self.file, located.at, place, slot)
+        read_value(&self.file, self.alloc, vault, located.at, place, slot)
     }
 
     /// Is a key there?
@@ -75,7 +75,7 @@ impl Store {
         if self.broken {
             return Err(DbError::NeedRecovery);
         }
-        let first = first_key(self.alloc, vault, self.file, &self.header, &mut self.block)?;
+        let first = first_key(&mut self.file, self.alloc, vault)?;
         match first {
             Some(key) => Ok(key),
             None => Err(DbError::ItemNotFound),
@@ -98,14 +98,7 @@ impl Store {
         if self.broken {
             return Err(DbError::NeedRecovery);
         }
-        let after = key_after(
-            self.alloc,
-            vault,
-            self.file,
-            &self.header,
-            key,
-            &mut self.block,
-        )?;
+        let after = key_after(&mut self.file, self.alloc, vault, key)?;
         match after {
             Successor::Key(key) => Ok(key),
             Successor::Last => Err(DbError::ItemNotFound),
@@ -129,6 +122,6 @@ impl Store {
         if self.broken {
             return Err(DbError::NeedRecovery);
         }
-        count(vault, self.file, &self.header)
+        count(&self.file, vault)
     }
 }

@@ -8,37 +8,32 @@ ghost use Rattle.gd_store.specs.Opened.{SameButCached};
 
 use crate::access::Access;
 use gd_format::Header;
-use gd_space::Space;
+use gd_open::OpenFile;
 use gd_vault::FileId;
 use std::alloc::Global;
 use std::marker::Model;
 
-/// An open database: a file of a vault, what is kept of its header and of its table of free space, and room for one
-/// block.
+/// An open database: a file of a vault with what is kept of it, and how it was opened.
 ///
 /// It doesn't own its vault. Each call is given the vault in which its file is.
 #[derive(Drop)]
 pub struct Store {
     pub(crate) alloc: Global,
-    pub(crate) file: FileId,
-    pub(crate) header: Header,
-    pub(crate) space: Space,
-    pub(crate) block: Vec<u8>,
+    pub(crate) file: OpenFile,
     pub(crate) access: Access,
     pub(crate) broken: bool,
     pub(crate) cache: u32,
 }
 
 impl Model for Store {
-    ghost use Rattle.std.specs.Prelude.{length};
     ghost use Rattle.gd_store.specs.Opened.{Opened};
     ghost use Rattle.gd_store.specs.Held.{FitsStore};
 
     ghost Value = { Opened };
 
-    ghost view = { λ s. record { file = s.file.0; header = s.header; table = s.space.table; access = s.access; broken = s.broken; cache = s.cache } };
+    ghost view = { λ s. record { file = s.file.id; header = s.file.header; table = s.file.table; access = s.access; broken = s.broken; cache = s.cache } };
 
-    ghost invariant = { λ s. FitsStore s.header s.space (length s.block.items) s.cache };
+    ghost invariant = { λ s. FitsStore s.cache };
 }
 
 impl Store {
@@ -49,7 +44,7 @@ impl Store {
         ensures fits { FitsHeader result.now }
         ensures native { is_native result.now.magic ≡ true }
     {
-        &self.header
+        self.file.header()
     }
 
     /// Sets how many buckets may be kept.
@@ -89,7 +84,7 @@ impl Store {
     pub fn file(&self) -> FileId
         ensures { result.0 ≡ self.now.file }
     {
-        self.file
+        self.file.file()
     }
 
     /// For what the database was opened.

@@ -11,14 +11,14 @@ ghost use Rattle.gd_map_laws.specs.Maps.{pair_map};
 ghost use Rattle.gd_map_laws.specs.Overflow.{is_close};
 ghost use Rattle.gd_vault.specs.Content.{File};
 ghost use Rattle.gd_vault.specs.Streams.{OnlyWrites};
+ghost use Rattle.gd_readable.specs.Asks.{Counts};
 ghost use Rattle.gd_vault.specs.Views.{HasFile, IsAt, OnlyAsks};
 ghost use Rattle.gd_space.specs.Effect.{WritesAtMost, TellsNone};
-ghost use Rattle.gd_change.specs.Calls.{Goes};
-ghost use Rattle.gd_change.specs.Open.{IsOpen};
-ghost use Rattle.gd_split.specs.Held.{HasBucket};
-ghost use Rattle.gd_split.specs.Turns.{Turns};
-ghost use Rattle.gd_grow.specs.Growth.{IsRoomMade, IsWider};
-ghost use Rattle.gd_grow.specs.Refusals.{is_growth_error};
+ghost use Rattle.gd_open.specs.Files.{FileBecomes};
+ghost use Rattle.gd_update.specs.Open.{IsOpen};
+ghost use Rattle.gd_update.specs.Held.{HasBucket};
+ghost use Rattle.gd_update.specs.Growth.{IsRoomMade, IsWider};
+ghost use Rattle.gd_update.specs.GrowthRefusals.{is_growth_error};
 ghost use Rattle.gd_store.specs.Changed.{Becomes, FindsRoom, IsReady, Keeps, has_slot, is_room_error, store_loss};
 ghost use Rattle.gd_store.specs.Located.{IsFoundIn};
 ghost use Rattle.gd_store.specs.Opened.{Fits, OnFile, SameButCached};
@@ -29,10 +29,9 @@ use crate::deleting::{is_fault, is_too_far};
 use crate::locating::Located;
 use crate::store::Store;
 use gd_base::DbError;
-use gd_change::put;
 use gd_format::Slot;
-use gd_grow::make_room;
-use gd_layout::{Bucket, full_count};
+use gd_layout::Bucket;
+use gd_update::{is_crowded, make_room, put};
 use gd_vault::Vault;
 
 // Is a slot full, with a hash that has the same first 24 bits?
@@ -58,14 +57,6 @@ fn close_count(slots: &[Slot], hash: u32) -> usize
         }
     }
     close
-}
-
-// Has a bucket no empty slot?
-fn is_crowded(bucket: &Bucket) -> bool
-    ensures yes { result ≡ true → count is_full bucket.now.slots ≡ length bucket.now.slots }
-    ensures no { result ≡ false → count is_full bucket.now.slots < length bucket.now.slots }
-{
-    full_count(bucket.slots()) == bucket.slots().len()
 }
 
 // What stands against a store, by the slot of the key or the slots of its bucket.
@@ -99,7 +90,7 @@ impl Store {
         requires room { self.old.header.next_block + 2 ^ 29 ≤ 2 ^ 46 }
         requires open { IsAt (V.view_of vault.old) (λ c. (x : File) → c.files self.old.file ≡ Some x → IsOpen x.bytes self.old.header self.old.table) }
         requires bucket { HasBucket (V.view_of vault.old) self.old.file self.old.header located.old.hash located.old.at located.old.bucket }
-        ensures made { OnOk result (Turns (V.view_of vault.old) (V.view_of vault.new) self.old.file (λ xs ys. IsRoomMade xs ys self.new.header self.new.table located.old.hash located.new.at located.new.bucket)) }
+        ensures made { OnOk result (FileBecomes (V.view_of vault.old) (V.view_of vault.new) self.old.file (λ xs ys. IsRoomMade xs ys self.new.header self.new.table located.old.hash located.new.at located.new.bucket)) }
         ensures empty { OnOk result (count is_full located.new.bucket.slots < length located.new.bucket.slots) }
         ensures elems { length located.new.bucket.slots ≡ self.new.header.elems }
         ensures hash { located.new.hash ≡ located.old.hash }
@@ -110,6 +101,8 @@ impl Store {
         ensures growth { OnOk result (self.new.header.next_block + 2 * dir_size_of self.old.header.dir_bits ≤ self.old.header.next_block + 144 * self.old.header.block + 2 * dir_size_of self.new.header.dir_bits) }
         ensures there { HasFile (V.view_of vault.new) self.old.file }
         ensures frame { OnlyWrites self.old.file (V.view_of vault.old) (V.view_of vault.new) }
+        ensures answered { OnOk result ((V.view_of vault.new).faults ≡ (V.view_of vault.old).faults) }
+        ensures counted { IfErr result (λ e. Counts e (V.view_of vault.old).faults (V.view_of vault.new).faults) }
         ensures amount { WritesAtMost (100 * self.old.header.block + 4 * dir_size_of self.new.header.dir_bits) (V.view_of vault.old) (V.view_of vault.new) }
         ensures little { OnOk result (WritesAtMost (97 * self.old.header.block + 2 * dir_size_of self.new.header.dir_bits) (V.view_of vault.old) (V.view_of vault.new)) }
         ensures kind { IfErr result (λ e. is_room_error e ≡ true) }
@@ -117,7 +110,7 @@ impl Store {
         ensures memory { IfErr result (λ e. e ≡ DbError.OutOfMemory → (self.new ≡ self.old) × OnlyAsks (V.view_of vault.old) (V.view_of vault.new)) }
         ensures told { IfErr result (λ e. e ≢ DbError.VaultFault → e ≢ DbError.OutOfMemory → TellsNone (V.view_of vault.old)) }
     {
-        let elems = self.header.elems;
+        let elems = self.file.header().elems;
         let Ok(mut first) = Bucket::empty(self.alloc, elems, 0) else {
             return Err(DbError::OutOfMemory);
         };
@@ -125,16 +118,13 @@ impl Store {
             return Err(DbError::OutOfMemory);
         };
         located.at = make_room(
+            &mut self.file,
             vault,
-            self.file,
-            &mut self.space,
-            &mut self.header,
             located.hash,
             located.at,
             &mut located.bucket,
             &mut first,
             &mut second,
-            &mut self.block,
         )?;
         Ok(())
     }
@@ -157,7 +147,7 @@ impl Store {
         requires full { IfSome located.old.place (λ p. is_full (slice_index_or located.old.bucket.slots p Slot.Empty) ≡ true) }
         requires room { self.old.header.next_block + 2 ^ 29 ≤ 2 ^ 46 }
         requires found { OnFile (V.view_of vault.old) self.old.file (λ file. IsFoundIn file self.old.header key.now located.old.at located.old.bucket located.old.place) }
-        ensures ready { OnOk result (Goes (V.view_of vault.old) (V.view_of vault.new) self.old.file (λ xs ys. IsReady xs ys self.new.header self.new.table located.new.at located.new.bucket key.now located.new.place)) }
+        ensures ready { OnOk result (FileBecomes (V.view_of vault.old) (V.view_of vault.new) self.old.file (λ xs ys. IsReady xs ys self.new.header self.new.table located.new.at located.new.bucket key.now located.new.place)) }
         ensures empty { OnOk result (IfNone located.new.place (count is_full located.new.bucket.slots < length located.new.bucket.slots)) }
         ensures full { OnOk result (IfSome located.new.place (λ p. is_full (slice_index_or located.new.bucket.slots p Slot.Empty) ≡ true)) }
         ensures few { OnFile (V.view_of vault.old) self.old.file (λ file. has_slot file key.now ≡ true → (self.new ≡ self.old) × OnlyAsks (V.view_of vault.old) (V.view_of vault.new)) }
@@ -170,6 +160,8 @@ impl Store {
         ensures growth { OnOk result (self.new.header.next_block + 2 * dir_size_of self.old.header.dir_bits ≤ self.old.header.next_block + 144 * self.old.header.block + 2 * dir_size_of self.new.header.dir_bits) }
         ensures there { HasFile (V.view_of vault.new) self.old.file }
         ensures frame { OnlyWrites self.old.file (V.view_of vault.old) (V.view_of vault.new) }
+        ensures answered { OnOk result ((V.view_of vault.new).faults ≡ (V.view_of vault.old).faults) }
+        ensures counted { IfErr result (λ e. Counts e (V.view_of vault.old).faults (V.view_of vault.new).faults) }
         ensures amount { WritesAtMost (100 * self.old.header.block + 4 * dir_size_of self.new.header.dir_bits) (V.view_of vault.old) (V.view_of vault.new) }
         ensures little { OnOk result (WritesAtMost (97 * self.old.header.block + 2 * dir_size_of self.new.header.dir_bits) (V.view_of vault.old) (V.view_of vault.new)) }
         ensures kind { IfErr result (λ e. is_room_error e ≡ true) }
@@ -212,30 +204,26 @@ impl Store {
         ensures amount { WritesAtMost (length key.now + length value.now + 100 * self.old.header.block + 4 * dir_size_of self.new.header.dir_bits) (V.view_of vault.old) (V.view_of vault.new) }
         ensures amount_few { OnFile (V.view_of vault.old) self.old.file (λ file. has_slot file key.now ≡ true → WritesAtMost (length key.now + length value.now + 3 * self.old.header.block) (V.view_of vault.old) (V.view_of vault.new)) }
         ensures frame { OnlyWrites self.old.file (V.view_of vault.old) (V.view_of vault.new) }
+        ensures answered { OnOk result ((V.view_of vault.new).faults ≡ (V.view_of vault.old).faults) }
+        ensures counted { IfErr result (λ e. Counts e (V.view_of vault.old).faults (V.view_of vault.new).faults) }
     {
         let mut located = self.locate(vault, key)?;
         if let Some(e) = refusal(&located, how) {
             return Err(e);
         }
-        if is_too_far(
-            self.header.next_block,
-            key.len() as u64 + value.len() as u64,
-        ) {
+        let size = key.len() as u64 + value.len() as u64;
+        if is_too_far(self.file.header().next_block, size) {
             return Err(DbError::FileFull);
         }
         self.make_ready(vault, key, &mut located)?;
         put(
+            &mut self.file,
             vault,
-            self.file,
-            &mut self.space,
-            &mut self.header,
             located.at,
             &mut located.bucket,
             located.place,
-            located.hash,
             key,
             value,
-            &mut self.block,
         )
     }
 
@@ -276,6 +264,8 @@ impl Store {
         ensures amount { WritesAtMost (length key.now + length value.now + 100 * self.old.header.block + 4 * dir_size_of self.new.header.dir_bits) (V.view_of vault.old) (V.view_of vault.new) }
         ensures amount_few { OnFile (V.view_of vault.old) self.old.file (λ file. has_slot file key.now ≡ true → WritesAtMost (length key.now + length value.now + 3 * self.old.header.block) (V.view_of vault.old) (V.view_of vault.new)) }
         ensures frame { OnlyWrites self.old.file (V.view_of vault.old) (V.view_of vault.new) }
+        ensures answered { OnOk result ((V.view_of vault.new).faults ≡ (V.view_of vault.old).faults) }
+        ensures counted { IfErr result (λ e. Counts e (V.view_of vault.old).faults (V.view_of vault.new).faults) }
     {
         if self.broken {
             return Err(DbError::NeedRecovery);

@@ -42,6 +42,31 @@ fn an_insert_does_not_replace(rt: HostRuntime) -> Result<(), Fail> {
     Ok(())
 }
 
+// Is a change answered, with so many moments, which are two a write?
+fn takes(trial: &mut Trial, key: &[u8], value: Option<&[u8]>, moments: u64) -> bool {
+    let before = trial.moment();
+    let answer = match value {
+        Some(value) => trial.replace(key, value),
+        None => trial.delete(key),
+    };
+    answer == Ok(()) && trial.moment().saturating_sub(before) == moments
+}
+
+#[test]
+fn each_block_is_written_once(rt: HostRuntime) -> Result<(), Fail> {
+    let Some(mut trial) = Trial::counting(rt.alloc(), 512) else {
+        return Err("refused".into());
+    };
+    // The key, the value, the bucket's block and the header's block.
+    assert!(rt; takes(&mut trial, b"k", Some(b"v"), 8));
+    assert!(rt; takes(&mut trial, b"k", Some(b"longer"), 8));
+    assert!(rt; takes(&mut trial, b"l", Some(b""), 6));
+    assert!(rt; takes(&mut trial, b"k", None, 4));
+    assert!(rt; trial.has(b"l", b""));
+    assert!(rt; trial.is_sound(rt.alloc()));
+    Ok(())
+}
+
 // Keys of one hash, whose home is the last slot but one of a block of 512.
 const ALIKE: [&[u8]; 16] = [
     b"A----z", b"C----y", b"E----x", b"G----w", b"I----v", b"K----u", b"M----t", b"O----s",

@@ -5,7 +5,7 @@ ghost use Rattle.std.specs.Prelude.{◌≡◌, ◌≤◌, Some};
 use gd_base::{Datum, DbError, Format, Name};
 use gd_memvault::MemVault;
 use gd_store::{Access, How, Store};
-use gd_vault::Mode;
+use gd_vault::{Mode, Vault};
 use gd_verify::sound;
 use std::alloc::Global;
 use std::marker::Model;
@@ -42,6 +42,25 @@ impl Trial {
             Ok(store) => Some(Trial { vault, store }),
             Err(_) => None,
         }
+    }
+
+    /// A new database in a new vault that counts its changing calls. Its name is `n`.
+    pub fn counting(alloc: Global, block: u32) -> Option<Trial>
+        requires { block ≤ 1048576 }
+    {
+        let mut vault = MemVault::new(alloc);
+        let Ok(name) = Name::new(alloc, "n") else {
+            return None;
+        };
+        match Store::create(alloc, &mut vault, &name, block, Format::Standard, 100) {
+            Ok(store) => Some(Trial { vault, store }),
+            Err(_) => None,
+        }
+    }
+
+    /// Twice the number of changing calls that the vault of `counting` got.
+    pub fn moment(&self) -> u64 {
+        self.vault.moment()
     }
 
     /// The database in a file of these bytes, in a new vault.

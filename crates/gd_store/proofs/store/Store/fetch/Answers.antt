@@ -1,7 +1,7 @@
 use Rattle.std.proofs.Common.{sym, ap, subst, ◌∙◌}
 use Rattle.std.specs.Prelude.{slice_index_or, length, IfOk, ◌≡◌}
 use Rattle.gd_format.specs.declared.Slot.TheVariants.{Empty}
-use Rattle.gd_lookup.specs.Open.{AtFile}
+use Rattle.gd_open.specs.Files.{AtFile}
 use Rattle.gd_lookup.specs.Reading.{LiesIn, value_in}
 use Rattle.gd_store.specs.Opened.{Opened}
 use Rattle.gd_store.proofs.Lookups.{absent_told, inside_told, values_told, place_none}

@@ -5,4 +5,4 @@ use Rattle.gd_store.proofs.store.Store.next.Goals as goal
 
 pub key_after-requires-clause-readable : goal.key_after-requires-clause-readable
 key_after-requires-clause-readable g c =
-    opens_inside (g.V.Vault.view_of c.args.vault.now) c.args.self.now c.self.inside.file.0 c.self.inside.header (ap (λ (s : Opened). s.file) c.self.view_is) (ap (λ (s : Opened). s.header) c.self.view_is) c.requires.fits (ap (λ (s : Opened). s.broken) (sym c.self.view_is) ∙ c.if-self.false)
+    opens_inside (g.V.Vault.view_of c.args.vault.now) c.args.self.now c.self.inside.file.id c.self.inside.file.header (ap (λ (s : Opened). s.file) c.self.view_is) (ap (λ (s : Opened). s.header) c.self.view_is) c.requires.fits (ap (λ (s : Opened). s.broken) (sym c.self.view_is) ∙ c.if-self.false)

@@ -1,5 +1,0 @@
-use Rattle.gd_grow.proofs.Growth.{growth_begins}
-use Rattle.gd_grow.proofs.laws.growth_begins.Goals as goal
-
-pub returns : goal.returns
-returns c = growth_begins

@@ -1,5 +1,0 @@
-use Rattle.gd_grow.proofs.Growth.{growth_ends}
-use Rattle.gd_grow.proofs.laws.growth_ends.Goals as goal
-
-pub returns : goal.returns
-returns c = growth_ends

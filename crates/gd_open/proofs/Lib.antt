@@ -1,0 +1,4 @@
+pub mod Opens
+pub mod Blocks
+pub mod Files
+pub mod Fits

@@ -1,0 +1,4 @@
+pub mod Open
+pub mod Files
+pub mod Reading
+pub mod Spells

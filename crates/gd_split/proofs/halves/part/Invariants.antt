@@ -1,6 +1,0 @@
-use Rattle.std.proofs.Common.{take}
-use Rattle.gd_split.proofs.Parts.{IsParted}
-use Rattle.gd_split.proofs.halves.part.Given as goal
-
-abbrev pub invariant-loop-slot : goal.invariant-loop-slot
-invariant-loop-slot l = IsParted l.bucket l.first l.second (take l.slot-index l.slots) l.bucket.free l.initial.second.free

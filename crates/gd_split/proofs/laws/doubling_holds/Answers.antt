@@ -1,5 +1,0 @@
-use Rattle.gd_split.proofs.DoubleParts.{double_holds}
-use Rattle.gd_split.proofs.laws.doubling_holds.Goals as goal
-
-pub returns : goal.returns
-returns c = double_holds

@@ -1,5 +1,0 @@
-use Rattle.gd_split.proofs.Ends.{same_lookups}
-use Rattle.gd_split.proofs.laws.same_lookups.Goals as goal
-
-pub returns : goal.returns
-returns c = same_lookups

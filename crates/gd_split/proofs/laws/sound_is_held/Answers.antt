@@ -1,5 +1,0 @@
-use Rattle.gd_split.proofs.Settled.{sound_is_held}
-use Rattle.gd_split.proofs.laws.sound_is_held.Goals as goal
-
-pub returns : goal.returns
-returns c = sound_is_held

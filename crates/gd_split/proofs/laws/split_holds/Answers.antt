@@ -1,5 +1,0 @@
-use Rattle.gd_split.proofs.SplitParts.{split_holds}
-use Rattle.gd_split.proofs.laws.split_holds.Goals as goal
-
-pub returns : goal.returns
-returns c = split_holds

@@ -1,5 +1,0 @@
-use Rattle.gd_split.proofs.Ends.{splits_end}
-use Rattle.gd_split.proofs.laws.splits_end.Goals as goal
-
-pub returns : goal.returns
-returns c = splits_end

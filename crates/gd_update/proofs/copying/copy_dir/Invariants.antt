@@ -1,0 +1,10 @@
+use Rattle.std.proofs.Common.{◌-◌}
+use Rattle.gd_update.specs.Runs.{IsDoubled}
+use Rattle.gd_update.specs.Loops.{IsAlong}
+use Rattle.gd_update.proofs.copying.copy_dir.Given as goal
+
+abbrev pub invariant-loop-done : goal.invariant-loop-done
+invariant-loop-done g l = IsAlong (g.V.Vault.view_of l.fn.vault) (g.V.Vault.view_of l.vault) l.file.id l.count l.done 16 (IsDoubled l.file.header.dir l.to l.done)
+
+abbrev pub decreases-loop-done : goal.decreases-loop-done
+decreases-loop-done g l = l.count - l.done

@@ -1,0 +1,17 @@
+pub mod Open
+pub mod Starts
+pub mod Writes
+pub mod KeepSound
+pub mod Calls
+pub mod Refusals
+pub mod Held
+pub mod Halves
+pub mod Runs
+pub mod Places
+pub mod Steps
+pub mod SplitLaws
+pub mod Settles
+pub mod Loops
+pub mod Growth
+pub mod GrowthLaws
+pub mod GrowthRefusals
