@@ -11,19 +11,20 @@ use Rattle.base64.specs.GeneralPurpose.{IsBytes}
 use Rattle.gd_base.specs.declared.errors.Format.{Format}
 use Rattle.gd_base.specs.declared.errors.Format.TheVariants.{Standard, Numsync}
 use Rattle.gd_dump.specs.Ascii.{base64_text, datum_text, end_text, file_part, format_text, is_plain, is_shown, lines_of, pair_text, pairs_text}
-use Rattle.gd_dump.specs.Params.{if_params, no_names, params_in, plain, quoted, some_params, value_in, with_line, with_value}
-use Rattle.gd_dump.specs.Lines.{is_overlong}
-use Rattle.gd_dump.specs.declared.items.DumpKind.TheVariants.{Parameter}
-use Rattle.gd_dump.specs.declared.items.Named.{Named}
-use Rattle.gd_dump.proofs.LineCuts.{short-line}
-use Rattle.gd_dump.specs.AsciiItems.{Line, Section, and_named, before, data_told, datum_in, from_start, joined, key_size, lines_in, named_told, parted, section_step, size_of, sizes, text_size, with_datum}
+use Rattle.gd_dump_reading.specs.Params.{if_params, no_names, params_in, plain, quoted, some_params, value_in, with_line, with_value}
+use Rattle.gd_dump_reading.specs.Lines.{is_overlong}
+use Rattle.gd_dump_reading.specs.declared.items.DumpKind.TheVariants.{Parameter}
+use Rattle.gd_dump_reading.specs.Params.{Named}
+use Rattle.gd_dump_reading.proofs.LineCuts.{short-line}
+use Rattle.gd_dump_reading.specs.AsciiItems.{Line, Section, and_named, before, data_told, datum_in, from_start, joined, key_size, lines_in, named_told, parted, section_step, size_of, sizes, text_size, with_datum}
 use Rattle.gd_dump.specs.RoundTrip.{ArePairs, ArePairsOfBytes, AsciiRoundTrip, FitPairs, ReadsAs, ascii_head}
-use Rattle.gd_dump.specs.Told.{Told, given, pairs_of}
-use Rattle.gd_dump.specs.declared.items.Item.TheVariants.{Head, Pair}
+use Rattle.gd_dump_reading.specs.Told.{Told, given, pairs_of}
+use Rattle.gd_dump_reading.specs.declared.items.Item.TheVariants.{Head, Pair}
 use Rattle.gd_dump.proofs.Chunks.{and-left, and-right, chunked, joined-chunked, lines-chunked, parted-chunked}
-use Rattle.gd_dump.proofs.Datums.{datum-whole}
-use Rattle.gd_dump.proofs.DataLines.{len-fine, count-fine}
-use Rattle.gd_dump.proofs.Encoded.{both, clean-text, decode-text, digits, number-decimal}
+use Rattle.gd_dump_reading.proofs.Datums.{datum-whole}
+use Rattle.gd_dump_reading.proofs.DataLines.{len-fine, count-fine}
+use Rattle.gd_dump_reading.proofs.Encodes.{strict-of}
+use Rattle.gd_dump.proofs.Encoded.{both, clean-text, digits, number-decimal}
 use Rattle.gd_dump.proofs.Lines.{length-text}
 
 -- ---- a line with its line feed
@@ -65,7 +66,7 @@ digits-fit n small = length-decimal-le 10 n (omega arith) (omega (arith, small))
 datum-given : (bytes : List ℕ) (at end : ℕ) → IsBytes bytes → datum_in (length bytes) at (joined (chunked (base64_text bytes))) true end ≡ Ok bytes
 datum-given bytes at end is =
     ap (λ (t : List ℕ). datum_in (length bytes) at t true end) (joined-chunked (base64_text bytes))
-    ∙ datum-whole (length bytes) at end (base64_text bytes) bytes (text-length bytes) (decode-text bytes is) refl
+    ∙ datum-whole (length bytes) at end (base64_text bytes) bytes (text-length bytes) (strict-of bytes is) refl
 
 -- where it ends
 datum_end : ℕ → List ℕ → ℕ

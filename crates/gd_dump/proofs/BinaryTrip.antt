@@ -4,13 +4,13 @@ use Rattle.std.proofs.lemmas.List.{length-append, take-append-le, drop-drop, tak
 use Rattle.std.proofs.Math.Seq.{drop-append_seam}
 use Rattle.std.proofs.lemmas.Nat.{from_be_bytes-to_be_bytes_4}
 use Rattle.gd_dump.specs.Binary.{binary_head, binary_pair, binary_pairs, sized}
-use Rattle.gd_dump.specs.BinaryDemand.{DemandIs}
-use Rattle.gd_dump.specs.BinaryItems.{binary_items, number_at, pairs_told, some_pairs_told}
+use Rattle.gd_dump_reading.specs.BinaryDemand.{DemandIs}
+use Rattle.gd_dump_reading.specs.BinaryItems.{binary_items, number_at, pairs_told, some_pairs_told}
 use Rattle.gd_dump.specs.RoundTrip.{ArePairs, BinaryRoundTrip, FitPairs, ReadsAs}
-use Rattle.gd_dump.specs.Told.{Told, given, pairs_of}
-use Rattle.gd_dump.specs.declared.items.Item.TheVariants.{Head, Pair}
-use Rattle.gd_dump.specs.declared.binary_machine.Demand.TheVariants.{Whole}
-use Rattle.gd_dump.proofs.BinaryPairs.{pairs-step, told-whole}
+use Rattle.gd_dump_reading.specs.Told.{Told, given, pairs_of}
+use Rattle.gd_dump_reading.specs.declared.items.Item.TheVariants.{Head, Pair}
+use Rattle.gd_dump_reading.specs.declared.binary_machine.Demand.TheVariants.{Whole}
+use Rattle.gd_dump_reading.proofs.BinaryPairs.{pairs-step, told-whole}
 
 -- the head of a text is read as a head
 head-read : (rest : List ℕ) → binary_items (binary_head ++ rest) ≡ given (Head (record { format = None; file = None })) 77 (pairs_told 77 rest)

@@ -4,7 +4,7 @@ use Rattle.std.specs.Prelude.{◌==◌, codes, not}
 use Rattle.std.specs.List.{list_all, starts_with}
 use Rattle.std.proofs.lemmas.Bool.{cond-false, eq-eqb, ne_eqb}
 use Rattle.gd_dump.specs.Ascii.{broken, lines_of}
-use Rattle.gd_dump.specs.AsciiItems.{Line, Section, before, joined, lines_in, parted, section_step}
+use Rattle.gd_dump_reading.specs.AsciiItems.{Line, Section, before, joined, lines_in, parted, section_step}
 
 -- ---- neither a line feed nor a '#'
 

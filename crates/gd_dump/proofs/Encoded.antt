@@ -7,11 +7,10 @@ use Rattle.std.proofs.lemmas.Bool.{le-leb}
 use Rattle.std.proofs.lemmas.Fmt.{decimal_by_steps, decimal_nonempty}
 use Rattle.std.proofs.lemmas.List.Folds.{list_all-append}
 use Rattle.base64.specs.Engines.{standard}
-use Rattle.base64.specs.GeneralPurpose.{IsBytes, decode_of, engine_symbols}
+use Rattle.base64.specs.GeneralPurpose.{engine_symbols}
 use Rattle.base64.specs.Rfc4648.{encode_symbols, padding_len}
-use Rattle.base64.proofs.EngineFacts.{decode_of-encode_of}
 use Rattle.gd_dump.specs.Ascii.{base64_text}
-use Rattle.gd_dump.specs.Numbers.{is_number, value_from, value_of}
+use Rattle.gd_dump_reading.specs.Numbers.{is_number, value_from, value_of}
 use Rattle.gd_dump.proofs.Chunks.{and-left, and-right, clean, is_clean}
 
 pub both : (a b : Bool) → a ≡ true → b ≡ true → (a && b) ≡ true
@@ -42,9 +41,6 @@ clean-text bytes =
     let symbols = encode_symbols (engine_symbols standard) bytes in
     let padding = padding_len (length bytes) in
     list_all-append is_clean symbols (replicate padding 61) ∙ both (clean symbols) (clean (replicate padding 61)) (clean-symbols (engine_symbols standard) bytes refl) (clean-equals padding)
-
-pub decode-text : (bytes : List ℕ) → IsBytes bytes → decode_of standard (base64_text bytes) ≡ Ok bytes
-decode-text bytes is = decode_of-encode_of standard bytes refl is
 
 -- ---- digits
 

@@ -3,8 +3,7 @@ use Rattle.std.specs.Prelude.{ℕ, zero, suc, ◌-◌, ◌==◌, ◌&&◌, ◌||
 use Rattle.std.specs.Char.{is_ascii_alphanumeric}
 use Rattle.std.specs.Fmt.{decimal}
 use Rattle.std.specs.List.{list_all, suffix_len}
-use Rattle.base64.specs.Engines.{standard}
-use Rattle.base64.specs.GeneralPurpose.{encode_of}
+pub use Rattle.gd_dump_reading.specs.Base64.{base64_text}
 use Rattle.gd_base.specs.declared.errors.Format.{Format}
 use Rattle.gd_base.specs.declared.errors.Format.TheVariants.{Standard, Numsync}
 
@@ -20,10 +19,6 @@ broken (suc room) (c ∷ cs) = c ∷ broken room cs
 abbrev pub lines_of : List ℕ → List ℕ
 lines_of [] = []
 lines_of (c ∷ cs) = c ∷ broken 75 cs
-
--- RFC 4648 with padding
-abbrev pub base64_text : List ℕ → List ℕ
-base64_text bytes = encode_of standard bytes
 
 abbrev pub datum_text : List ℕ → List ℕ
 datum_text bytes = codes "#:len=" ++ (decimal (length bytes) ++ 10 ∷ lines_of (base64_text bytes))

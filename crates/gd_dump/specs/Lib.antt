@@ -1,17 +1,3 @@
 pub mod Ascii
-pub mod AsciiItems
-pub mod AsciiLeft
-pub mod AsciiRooms
-pub mod AsciiSteps
 pub mod Binary
-pub mod BinaryDemand
-pub mod BinaryItems
-pub mod BinaryLeft
-pub mod Lines
-pub mod Numbers
-pub mod ParamReads
-pub mod Params
-pub mod Readers
 pub mod RoundTrip
-pub mod Said
-pub mod Told

@@ -1,16 +1,17 @@
 -- What was dumped is read again.
-use Rattle.std.specs.Prelude.{◌≡◌, ◌↔◌, ℕ, ◌+◌, ◌^◌, ◌≤◌, ◌<◌, List, [], ◌∷◌, length, codes, Some, None, Ok, if◌then◌else◌}
+use Rattle.std.specs.Prelude.{◌≡◌, ◌↔◌, ℕ, ◌+◌, ◌^◌, ◌≤◌, ◌<◌, List, [], ◌∷◌, length, codes, Some, None, if◌then◌else◌}
 use Rattle.base64.specs.Engines.{standard}
-use Rattle.base64.specs.GeneralPurpose.{IsBytes, decode_of, engine_padding, engine_symbols}
+use Rattle.base64.specs.GeneralPurpose.{IsBytes, engine_padding, engine_symbols}
 use Rattle.gd_base.specs.declared.errors.Format.{Format}
 use Rattle.gd_dump.specs.Ascii.{ascii_text, base64_text, file_part, is_shown}
-use Rattle.gd_dump.specs.AsciiItems.{ascii_items}
+use Rattle.gd_dump_reading.specs.AsciiItems.{ascii_items}
+use Rattle.gd_dump_reading.specs.Base64.{strict_bytes}
 use Rattle.gd_dump.specs.Binary.{binary_text}
-use Rattle.gd_dump.specs.BinaryItems.{binary_items}
-use Rattle.gd_dump.specs.Told.{Told, pairs_of}
-use Rattle.gd_dump.specs.declared.items.DumpHead.{DumpHead}
-use Rattle.gd_dump.specs.declared.items.Item.{Item}
-use Rattle.gd_dump.specs.declared.items.Item.TheVariants.{Head, Pair, End}
+use Rattle.gd_dump_reading.specs.BinaryItems.{binary_items}
+use Rattle.gd_dump_reading.specs.Told.{Told, pairs_of}
+use Rattle.gd_dump_reading.specs.declared.items.DumpHead.{DumpHead}
+use Rattle.gd_dump_reading.specs.declared.items.Item.{Item}
+use Rattle.gd_dump_reading.specs.declared.items.Item.TheVariants.{Head, Pair, End}
 
 -- pairs that a dump may have
 abbrev pub FitPairs : List (List ℕ × List ℕ) → Type 0
@@ -50,9 +51,9 @@ abbrev pub AsciiRoundTrip : Type 0
 AsciiRoundTrip = (pairs : List (List ℕ × List ℕ)) (name : List ℕ) (format : Format) → length pairs < 2 ^ 64 → length name ≤ 4000 → FitPairs pairs → ArePairsOfBytes pairs
     → ReadsAs (ascii_items (ascii_text pairs name format)) (ascii_head name format) pairs
 
--- a text is decoded to bytes exactly where it is their base64
+-- a text stands for bytes exactly where it is their base64
 abbrev pub StrictBase64 : Type 0
-StrictBase64 = (text bytes : List ℕ) → IsBytes text → IsBytes bytes → (decode_of standard text ≡ Ok bytes) ↔ (text ≡ base64_text bytes)
+StrictBase64 = (text bytes : List ℕ) → (strict_bytes text ≡ Some bytes) ↔ ((text ≡ base64_text bytes) × IsBytes bytes)
 
 -- the symbols are those of RFC 4648
 abbrev pub StandardAlphabet : Type 0

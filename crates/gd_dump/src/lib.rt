@@ -1,24 +1,16 @@
-//! Dumps: the portable texts of all records of a database.
+//! Dumps: the portable texts of all records of a database. `gd_dump_reading` reads them.
 #![tactic(auto)]
 
 mod ascii_data;
-mod ascii_machine;
-mod ascii_reader;
 mod ascii_writer;
-mod binary_machine;
-mod binary_reader;
 mod binary_writer;
-mod items;
 mod laws;
-mod names_said;
-mod numbers;
-mod params;
 
-pub use ascii_reader::AsciiReader;
 pub use ascii_writer::AsciiWriter;
-pub use binary_reader::BinaryReader;
 pub use binary_writer::BinaryWriter;
-pub use items::{DumpError, DumpHead, DumpKind, Fed, Item};
+pub use gd_dump_reading::{
+    AsciiReader, BinaryReader, DumpError, DumpHead, DumpKind, Fed, Item, Machine, Reader,
+};
 pub use laws::{ascii_round_trip, base64_alphabet, binary_round_trip, strict_base64};
 
 #[cfg(test)]

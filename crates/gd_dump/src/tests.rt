@@ -1,4 +1,1 @@
-mod gnu;
-mod pieces;
-mod reading;
 mod writing;

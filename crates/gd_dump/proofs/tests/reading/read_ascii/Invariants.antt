@@ -1,9 +1,0 @@
-use Rattle.std.proofs.Common.{◌≡◌, ◌≤◌, length}
-use Rattle.gd_dump.specs.Readers.{ascii_reader_taken}
-use Rattle.gd_dump.proofs.tests.reading.read_ascii.Given as goal
-
-abbrev pub invariant-pieces : goal.invariant-pieces
-invariant-pieces g l = record {
-  within : l.at ≤ length l.bytes;
-  taken : ascii_reader_taken l.reader ≡ l.at;
-}

@@ -1,0 +1,9 @@
+use Rattle.std.proofs.Common.{◌≡◌, ◌≤◌, length}
+use Rattle.gd_dump_reading.specs.Readers.{taken_by}
+use Rattle.gd_dump_reading.proofs.tests.pieces.taken_of.Given as goal
+
+abbrev pub invariant-pieces : goal.invariant-pieces
+invariant-pieces g l = record {
+  within : l.at ≤ length l.bytes;
+  taken : taken_by g.M.Machine.taken l.reader ≡ l.at;
+}

@@ -1,0 +1,3 @@
+mod gnu;
+mod pieces;
+mod reading;
