@@ -3,3 +3,4 @@ pub mod Digits
 pub mod Naming
 pub mod Refusing
 pub mod Steps
+pub mod Limits

@@ -1,8 +1,9 @@
 //! Tokens to commands.
 
-ghost use Rattle.std.specs.Prelude.{◌≡◌, ◌∷◌, ◌++◌, [], MatchResult, Ok};
+ghost use Rattle.std.specs.Prelude.{◌≡◌, ◌∷◌, ◌++◌, [], IfOk, MatchResult, Ok};
 ghost use Rattle.std.specs.Option.{option_copied};
 ghost use Rattle.gd_lang.specs.Commands.{both, braced_of, command_of, data_of, ended, lone_word, maybe_data, maybe_name, maybe_setting, number_of, one_data, row_command, two_data, two_numbers, word_in};
+ghost use Rattle.gd_lang.specs.Limits.{IsProper};
 ghost use Rattle.gd_lang.specs.Refusals.{Answers, Refuses};
 ghost use Rattle.gd_lang.specs.declared.rows.Row.{Row};
 ghost use Rattle.gd_lang.specs.declared.errors.LangError.{LangError};
@@ -215,9 +216,8 @@ fn row_command(alloc: Global, row: Row, arguments: &[Token]) -> Result<Command, 
     }
 }
 
-/// The command of a line's tokens, whose first word is the front of its name. Its name is looked at first, then whether it is
-/// built, and then its arguments; want of memory may be answered for any tokens.
-pub fn parse(alloc: Global, tokens: &Tokens) -> Result<Command, LangError>
+// The command of tokens: its name is looked at first.
+fn parse_tokens(alloc: Global, tokens: &Tokens) -> Result<Command, LangError>
     ensures { Answers result (command_of tokens.now) }
 {
     let [first, arguments @ ..] = tokens.as_slice() else {
@@ -231,4 +231,14 @@ pub fn parse(alloc: Global, tokens: &Tokens) -> Result<Command, LangError>
         Found::Several => Err(LangError::Ambiguous),
         Found::One(row) => row_command(alloc, row_of(row), arguments),
     }
+}
+
+/// The command of a line's tokens, whose first word is the front of its name. Its name is looked at first, then whether it is
+/// built, and then its arguments; want of memory may be answered for any tokens. Names, numbers and values of a command are
+/// within the limits of the language.
+pub fn parse(alloc: Global, tokens: &Tokens) -> Result<Command, LangError>
+    ensures answers { Answers result (command_of tokens.now) }
+    ensures proper { IfOk result IsProper }
+{
+    parse_tokens(alloc, tokens)
 }

@@ -5,7 +5,7 @@ ghost use Rattle.std.specs.List.{flat_map};
 ghost use Rattle.gd_base.specs.Causes.{HasCause, Rose};
 ghost use Rattle.gd_base.specs.Pages.{Pends};
 ghost use Rattle.gd_base.specs.Streams.{Puts};
-ghost use Rattle.gd_types.specs.Decoding.{Decodes, OnFailed, OnTyped, datum_fault, kind_text, left_fault, member_text, rest_fault, typed_text, value_text, zero_fault};
+ghost use Rattle.gd_types.specs.Decoding.{Decodes, OnFailed, OnTyped, datum_fault, datum_text, kind_text, left_fault, member_text, rest_fault, typed_text, value_text, zero_fault};
 ghost use Rattle.gd_types.specs.Members.{has_float, is_made_from, is_row, place_after, placed, reached};
 ghost use Rattle.gd_types.specs.Printing.{joined, lead_of};
 ghost use Rattle.gd_types.specs.Rows.{Number, is_width, kind_of, kind_width};
@@ -185,6 +185,24 @@ fn put_datum<O: Sink>(
     let mut page = Page::new();
     put_members(&mut page, members, bytes, delim, out)?;
     flush(&mut page, out)
+}
+
+/// Puts the text of a datum that is not refused behind what waits in a page: its values in their order, with the delimiter
+/// between them. Takes no memory.
+pub fn put_typed<O: Sink>(
+    page: &mut Page,
+    def: &Definition,
+    bytes: &[u8],
+    delim: &[u8],
+    out: &mut O,
+) -> Result<(), Failed>
+    requires float { has_float def.now ≡ false }
+    requires fits { datum_fault def.now bytes.now ≡ None }
+    ensures bytes { Pends (O.written out.old) page.old.items (O.written out.new) page.new.items result (datum_text def.now bytes.now delim.now) }
+    ensures cause { HasCause (O.fault_count out.old) (O.fault_count out.new) result }
+    ensures kept { O.kept out.old out.new }
+{
+    put_members(page, def.members(), bytes, delim, out)
 }
 
 /// Prints a datum: its values in their order, with the delimiter between them. A refused datum prints nothing, and leaves the

@@ -14,7 +14,7 @@ mod scalars;
 mod tables;
 mod words;
 
-pub use decoding::{check, decode};
+pub use decoding::{check, decode, put_typed};
 pub use definition::Definition;
 pub use encoding::encode;
 pub use errors::{DecodeError, EncodeError, TypeError};
