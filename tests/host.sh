@@ -3,9 +3,12 @@
 # files without leave, full devices, closed pipes, and a file that is cut while it is dumped.
 # usage: tests/host.sh BIN_DIR        (builds nothing; a check whose tool is missing says so and is skipped)
 set -u
-dump=$(cd "${1:?usage: tests/host.sh BIN_DIR}" && pwd)/gdbm_dump || exit 2
+bin=$(cd "${1:?usage: tests/host.sh BIN_DIR}" && pwd) || exit 2
+dump=$bin/gdbm_dump tool=$bin/gdbmtool
 data=$(cd "$(dirname "$0")/../crates/gdbm_dump" && pwd) || exit 2
-[ -x "$dump" ] || { echo "host: $dump is no program"; exit 2; }
+for program in "$dump" "$tool"; do
+    [ -x "$program" ] || { echo "host: $program is no program"; exit 2; }
+done
 work=$(mktemp -d) || exit 2
 trap 'chmod -R u+rwx "$work"; rm -rf "$work"' EXIT
 cd "$work" || exit 2
@@ -255,6 +258,115 @@ if has mkfifo && has truncate; then
 else
     skips "mkfifo or truncate is missing, so no file is cut while it is dumped"
 fi
+
+# --- gdbmtool: words that are no text, streams that are closed, outputs that fail, names of every kind
+
+# works COMMANDS WORD..: answers the commands; a run that doesn't end within five seconds has status 124.
+works() {
+    local commands=$1
+    shift
+    printf "$commands" | timeout 5 "$tool" "$@" >out 2>err
+    status=$?
+}
+
+mkdir tool
+cd tool || exit 2
+cp ../sound .
+cp ../damaged .
+: >nothing
+printf 'v\n' >value
+printf 'k v\n' >pair
+
+for program in "$dump" "$tool"; do
+    timeout 5 "$program" "$(printf '\377')" >out 2>err </dev/null
+    status=$?
+    wants "a word that is no text" 3 nothing "$(basename "$program"): usage error"
+done
+for words in '-r -n' '-b 1048577' '-c 0' '-z' '-b' 'a b' '-n -n' '--format=standard'; do
+    # shellcheck disable=SC2086
+    works 'store k v\n' $words
+    wants "the words $words" 3 nothing 'gdbmtool: usage error'
+done
+works 'store k v\n' ''
+wants "an empty word" 3 nothing 'gdbmtool: usage error'
+[ "$(echo *)" = 'damaged err nothing out pair sound value' ] && passes || fails "refused words left a file: $(echo *)"
+works 'store k v\nfetch k\n'
+wants "no name" 0 value ''
+works 'first\n' -r
+wants "the file of no name" 0 pair ''
+works 'fetch k' sound
+wants "a file, and a line that isn't ended" 0 value ''
+
+# shut CHOICE WORD..: answers `fetch k` with the streams of the choice closed.
+shut() {
+    local choice=$1
+    shift
+    : >out
+    : >err
+    printf 'fetch k\n' >lines
+    (
+        exec >out 2>err <lines
+        case $choice in *0*) exec <&- ;; esac
+        case $choice in *1*) exec >&- ;; esac
+        case $choice in *2*) exec 2>&- ;; esac
+        exec "$tool" "$@"
+    )
+    status=$?
+}
+for choice in none 0 1 2 01 02 12 012; do
+    cp sound a.gdbm
+    said='' got=value wanted=0
+    case $choice in
+        *0*) said='gdbmtool: input fault' got=nothing wanted=1 ;;
+        *1*) said='gdbmtool: output fault' got=nothing wanted=1 ;;
+    esac
+    case $choice in *2*) said='' ;; esac
+    shut "$choice" a.gdbm
+    wants "gdbmtool with closed streams $choice" "$wanted" "$got" "$said"
+    keeps "gdbmtool with closed streams $choice" a.gdbm sound
+    cp damaged a.gdbm
+    said='gdbmtool: 1: error 11 BadHashEntry 1024 7' wanted=2
+    case $choice in *0*) said='gdbmtool: input fault' wanted=1 ;; esac
+    case $choice in *2*) said='' wanted=1 ;; esac
+    shut "$choice" a.gdbm
+    wants "gdbmtool on a damaged file with closed streams $choice" "$wanted" nothing "$said"
+    keeps "gdbmtool on a damaged file with closed streams $choice" a.gdbm damaged
+done
+
+cp sound a.gdbm
+if [ -c /dev/full ]; then
+    : >out
+    printf 'store k w\nfetch k\nstore k x\n' | "$tool" a.gdbm 2>err >/dev/full
+    status=$?
+    wants "gdbmtool, and a full device as output" 1 nothing 'gdbmtool: output fault'
+    printf 'w\n' >other
+    works 'fetch k\n' a.gdbm
+    wants "what was stored before it" 0 other ''
+    printf 'fetch absent\nfetch k\n' | "$tool" a.gdbm >out 2>/dev/full
+    status=$?
+    : >err
+    wants "gdbmtool, and a full device as standard error" 1 nothing ''
+    works '' /dev/full
+    wants "gdbmtool, a device as a name, and no commands" 0 nothing ''
+else
+    skips "no /dev/full"
+fi
+: >out
+{ sleep 0.3; printf 'fetch k\n' | "$tool" a.gdbm 2>err; echo $? >status; } | true
+status=$(cat status)
+wants "gdbmtool, and a closed pipe as output" 1 nothing 'gdbmtool: output fault'
+
+mkdir folder
+ln -s nowhere dangling
+for name in folder dangling /dev/null; do
+    works 'count\n' -r "$name"
+    wants "gdbmtool on $name" 1 nothing 'gdbmtool: 1: error 27 VaultFault'
+done
+works 'count\n' -r absent.gdbm
+wants "gdbmtool on an absent file" 2 nothing 'gdbmtool: 1: error 1 Absent'
+works 'store k v\n' -r a.gdbm
+wants "a store into a file that is opened to read" 2 nothing 'gdbmtool: 1: error 14 ReaderCant'
+cd .. || exit 2
 
 echo "host: $passed passed, $failed failed"
 [ "$failed" = 0 ]

@@ -2,3 +2,4 @@ pub mod Ends
 pub mod Files
 pub mod Pairs
 pub mod Refusals
+pub mod Scripts

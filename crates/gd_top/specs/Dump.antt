@@ -1,17 +1,19 @@
 -- How a run of the dumper ends: what it prints, what it says, and why.
-use Rattle.std.specs.Prelude.{◌≡◌, ◌⊎◌, ◌∷◌, ◌++◌, ℕ, Bool, true, List, [], Option, Some, None, is_none, codes, if◌then◌else◌, option_and_then, option_map}
+use Rattle.std.specs.Prelude.{◌≡◌, ◌⊎◌, ◌↔◌, ◌∷◌, ◌++◌, ℕ, Bool, true, List, [], Option, Some, None, is_none, codes, if◌then◌else◌, option_and_then, option_map}
 use Rattle.gd_base.specs.declared.errors.DbError.{DbError}
 use Rattle.gd_base.specs.declared.errors.DbError.TheVariants.{Absent, VaultFault}
 use Rattle.gd_base.specs.Causes.{Rose}
 use Rattle.gd_base.specs.Errors.{error_text}
 use Rattle.gd_base.specs.Streams.{WritesFront, and_then}
 use Rattle.gd_vault.specs.Content.{File, Content}
-use Rattle.gd_vault.specs.Views.{Told, View, IsAt, content_of}
+use Rattle.gd_vault.specs.Views.{Told, View, IsAt, OnlyAsks, content_of}
 use Rattle.gd_format.specs.HeaderFault.{header_of}
 use Rattle.gd_format.specs.File.{file_fault, front_of, records}
 use Rattle.gd_dump.specs.Ascii.{ascii_text}
 use Rattle.gd_readable.specs.Asks.{Counts, is_of_bucket, is_of_readable}
-use Rattle.gd_top.specs.Words.{Text}
+use Rattle.gd_script.specs.declared.turns.Turn.{Turn}
+use Rattle.gd_top.specs.Devices.{Devices}
+use Rattle.gd_top.specs.Words.{Text, reading}
 use Rattle.gd_top.specs.declared.ending.Ending.{Ending}
 use Rattle.gd_top.specs.declared.ending.Ending.TheVariants.{Dumped, Misused, Refused, Broken, OutputFailed, Starved}
 
@@ -145,3 +147,26 @@ EndsAt Misused name v f vault_failed out_failed out0 out1 = ⊥
 EndsAt (Refused e) name v f vault_failed out_failed out0 out1 = RefusedAt e v f vault_failed × (out1 ≡ out0)
 EndsAt Starved name v f vault_failed out_failed out0 out1 = AtFile v f (λ file. WritesFront out0 out1 (text_of name (Some file)))
 EndsAt e name v f vault_failed out_failed out0 out1 = AtFile v f (λ file. (file_fault file ≡ None) × WritesFront out0 out1 (dump_of name file)) × Breaks e v.told vault_failed out_failed
+
+-- ---- the run of the dumper
+
+-- there is one way in which the run ended: why it came, and what was printed and said
+pub record DumpEnds (words : List Text) (status : ℕ) (u v : View) (out_before out_now : ℕ) (out0 out1 : Option Text) (err_before err_now : ℕ) (err0 err1 : Option Text) : Type 0 where
+  pub ending : Ending
+  pub ends : Ends ending (reading words) u (Rose u.faults v.faults) (Rose out_before out_now) out0 out1
+  pub counted : Counted ending u.faults v.faults out_before out_now
+  pub says : Says ending status err_before err_now err0 err1
+
+pub record Dumps (words : List Text) (status : ℕ) (turns : List Turn) (old new : Devices) : Type 0 where
+  -- the words are refused
+  pub usage : (status ≡ 3) ↔ (reading words ≡ None)
+  pub ends : DumpEnds words status old.view new.view old.out_faults new.out_faults old.written new.written old.err_faults new.err_faults old.said new.said
+  -- no count of faults rose where the whole dump was printed or no memory was found
+  pub quiet : IsQuiet status → (new.view.faults ≡ old.view.faults) × (new.out_faults ≡ old.out_faults) × (new.err_faults ≡ old.err_faults)
+  -- the vault is only asked, input and clock are left alone, and there are no turns
+  pub asks : OnlyAsks old.view new.view
+  pub left : new.left ≡ old.left
+  pub input_faults : new.input_faults ≡ old.input_faults
+  pub told : new.told ≡ old.told
+  pub clock_faults : new.clock_faults ≡ old.clock_faults
+  pub turns_none : turns ≡ []

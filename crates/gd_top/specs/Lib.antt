@@ -1,2 +1,5 @@
+pub mod Devices
 pub mod Dump
+pub mod Run
+pub mod Tool
 pub mod Words

@@ -5,18 +5,25 @@ ghost use Rattle.std.specs.Prelude.{◌≡◌, ◌≤◌, ◌↔◌, None, map, 
 ghost use Rattle.gd_base.specs.Causes.{Rose};
 ghost use Rattle.gd_vault.specs.Views.{OnlyAsks};
 ghost use Rattle.gd_top.specs.declared.ending.Ending.{Ending};
-ghost use Rattle.gd_top.specs.Dump.{Counted, Ends, IsQuiet, Says};
+ghost use Rattle.gd_top.specs.Devices.{devices};
+ghost use Rattle.gd_top.specs.Dump.{Counted, DumpEnds, Ends, IsQuiet};
+ghost use Rattle.gd_top.specs.Run.{IsRefused, Runs};
 ghost use Rattle.gd_top.specs.Words.{reading};
 
 mod dump;
 mod ending;
+mod scripting;
 mod words;
 
 use dump::dump;
 pub use ending::{Ending, report};
 use gd_base::{Clock, Sink, Source};
 pub use gd_host::{HostClock, HostSink, HostSource, HostVault, host_words};
+pub use gd_script::Turns;
 use gd_vault::Vault;
+pub use gd_words::Refusal as ToolRefusal;
+pub use scripting::refuse;
+use scripting::script;
 use std::alloc::Global;
 pub use words::Refusal;
 use words::name_of;
@@ -24,16 +31,21 @@ use words::name_of;
 /// Which program runs.
 #[derive(Clone, Copy, Debug, PartialEq, Eq)]
 pub enum Tool {
+    /// `gdbmtool [OPTION..] [DB]` answers the commands of its input.
+    Gdbmtool,
     /// `gdbm_dump DB` prints the ASCII dump of a database file.
     Dump,
 }
 
 /// What a run leaves beside what it wrote.
-#[derive(Clone, Copy, Debug, PartialEq, Eq)]
+#[derive(Debug, Drop)]
 pub struct Outcome {
-    /// The exit status: 0 where the dump was printed, 1 for an absent or unreadable file or a failed device, 3 for
-    /// refused words, 4 for want of memory.
+    /// The exit status, the first that holds: 3 for refused words; 1 for a device that failed, and for an absent or
+    /// unreadable file of `gdbm_dump`, or input of `gdbmtool` that is too long; 4 for want of memory; 2 for a command of
+    /// `gdbmtool` that was refused; 0.
     pub status: u8,
+    /// The turns of `gdbmtool`, one an answered line; `gdbm_dump` has none.
+    pub turns: Turns,
 }
 
 // Dumps the file that the words name.
@@ -56,6 +68,27 @@ fn dump_words<O: Sink, V: Vault>(
     }
 }
 
+// Dumps the file that the words name, and says how that ended. Answers the status.
+fn dump_run<O: Sink, E: Sink, V: Vault>(
+    alloc: Global,
+    words: &[String],
+    out: &mut O,
+    err: &mut E,
+    vault: &mut V,
+) -> u8
+    ensures usage { (result ≡ 3) ↔ (reading (map string_bytes words.now) ≡ None) }
+    ensures ends { DumpEnds (map string_bytes words.now) result (V.view_of vault.old) (V.view_of vault.new) (O.fault_count out.old) (O.fault_count out.new) (O.written out.old) (O.written out.new) (E.fault_count err.old) (E.fault_count err.new) (E.written err.old) (E.written err.new) }
+    ensures quiet { IsQuiet result → ((V.view_of vault.new).faults ≡ (V.view_of vault.old).faults) × (O.fault_count out.new ≡ O.fault_count out.old) × (E.fault_count err.new ≡ E.fault_count err.old) }
+    ensures asks { OnlyAsks (V.view_of vault.old) (V.view_of vault.new) }
+    ensures later_out { O.fault_count out.old ≤ O.fault_count out.new }
+    ensures later_err { E.fault_count err.old ≤ E.fault_count err.new }
+    ensures kept_out { O.kept out.old out.new }
+    ensures kept_err { E.kept err.old err.new }
+{
+    let ending = dump_words(alloc, words, out, vault);
+    report(err, ending)
+}
+
 /// Runs a tool with the words after its name.
 pub fn run<S: Source, O: Sink, E: Sink, V: Vault, C: Clock>(
     alloc: Global,
@@ -68,33 +101,32 @@ pub fn run<S: Source, O: Sink, E: Sink, V: Vault, C: Clock>(
     clock: &mut C,
 ) -> Outcome
     // The words are refused.
-    ensures usage { (result.status ≡ 3) ↔ (reading (map string_bytes words.now) ≡ None) }
+    ensures usage { result.status ≡ 3 → IsRefused tool (map string_bytes words.now) }
 
-    // There is one way in which the run ended: why it came, and what was printed and said.
-    ensures ends { (e : Ending)
-        × Ends e (reading (map string_bytes words.now)) (V.view_of vault.old) (Rose (V.view_of vault.old).faults (V.view_of vault.new).faults) (Rose (O.fault_count out.old) (O.fault_count out.new)) (O.written out.old) (O.written out.new)
-        × Counted e (V.view_of vault.old).faults (V.view_of vault.new).faults (O.fault_count out.old) (O.fault_count out.new)
-        × Says e result.status (E.fault_count err.old) (E.fault_count err.new) (E.written err.old) (E.written err.new) }
+    // What was printed and said, what became of the vault, and why.
+    ensures runs { Runs tool (map string_bytes words.now) result.status result.turns
+        (devices (S.left input.old) (S.fault_count input.old) (O.written out.old) (O.fault_count out.old) (E.written err.old) (E.fault_count err.old) (V.view_of vault.old) (C.told clock.old) (C.fault_count clock.old))
+        (devices (S.left input.new) (S.fault_count input.new) (O.written out.new) (O.fault_count out.new) (E.written err.new) (E.fault_count err.new) (V.view_of vault.new) (C.told clock.new) (C.fault_count clock.new)) }
 
-    // No count of faults rose where the whole dump was printed or no memory was found.
-    ensures quiet { IsQuiet result.status → ((V.view_of vault.new).faults ≡ (V.view_of vault.old).faults) × (O.fault_count out.new ≡ O.fault_count out.old) × (E.fault_count err.new ≡ E.fault_count err.old) }
-
-    // The input and the clock are left alone.
-    ensures input { (S.left input.new ≡ S.left input.old) × (S.fault_count input.new ≡ S.fault_count input.old) }
-    ensures clock { (C.told clock.new ≡ C.told clock.old) × (C.fault_count clock.new ≡ C.fault_count clock.old) }
-
-    // The vault is only asked, and no count falls.
-    ensures asks { OnlyAsks (V.view_of vault.old) (V.view_of vault.new) }
+    // No count of faults falls.
     ensures later_out { O.fault_count out.old ≤ O.fault_count out.new }
     ensures later_err { E.fault_count err.old ≤ E.fault_count err.new }
     ensures kept_out { O.kept out.old out.new }
     ensures kept_err { E.kept err.old err.new }
 {
-    let ending = match tool {
-        Tool::Dump => dump_words(alloc, words, out, vault),
-    };
-    let status = report(err, ending);
-    Outcome { status }
+    match tool {
+        Tool::Gdbmtool => {
+            let script = script(alloc, words, input, out, err, vault, clock);
+            Outcome {
+                status: script.status,
+                turns: script.turns,
+            }
+        }
+        Tool::Dump => Outcome {
+            status: dump_run(alloc, words, out, err, vault),
+            turns: Turns::new(alloc),
+        },
+    }
 }
 
 #[cfg(test)]

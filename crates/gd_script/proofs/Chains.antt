@@ -1,0 +1,242 @@
+-- Chains of turns.
+use Rattle.std.proofs.Common.{◌≡◌, ◌≢◌, ◌⊎◌, inl, inr, ℕ, ◌+◌, ◌≤◌, List, [], ◌∷◌, ◌++◌, length, Option, Some, None, Result, Ok, Err, refl, sym, ap, subst, ◌∙◌, arith, length-append}
+use Rattle.std.proofs.lemmas.List.{append-nil, append_assoc}
+use Rattle.gd_base.specs.Clocks.{Readings}
+use Rattle.gd_base.specs.Streams.{and_then}
+use Rattle.gd_base.proofs.Writes.{all-after, put-nothing}
+use Rattle.gd_lang.specs.declared.commands.Command.{Command}
+use Rattle.gd_session.specs.declared.reply.Reply.{Reply}
+use Rattle.gd_session.specs.declared.reply.Reply.TheVariants.{SinkFault}
+use Rattle.gd_vault.specs.Content.{Content}
+use Rattle.gd_vault.specs.Events.{Event, content_after, moment_after}
+use Rattle.gd_vault.specs.Frame.{Frame}
+use Rattle.gd_vault.specs.History.{was}
+use Rattle.gd_vault.specs.Views.{Told, content_of}
+use Rattle.gd_vault.specs.Views.Told.{Records}
+use Rattle.gd_vault.proofs.FrameLeft.{same_past}
+use Rattle.gd_vault.proofs.WasLeft.{was_now}
+use Rattle.gd_script.specs.Answers as answers
+use Rattle.gd_script.specs.Answers.{Answered, AnswerCause, AnyFile, AnyName, GivesMore, LineAnswers, LineSteps, LineTold, Text, given_in}
+use Rattle.gd_script.specs.Chain.{CalmChain, Chain, Counted, GoesOn, IsCalm, Link, NeverFall, Now, answered_at, counts_of}
+use Rattle.gd_script.specs.Lines.{Line}
+use Rattle.gd_script.specs.Run.{Linked, Ran, RunsBy, now_of}
+use Rattle.gd_script.specs.Turns.{Objects, Turned, faults_of}
+use Rattle.gd_script.specs.declared.turns.Answer.TheVariants as answer
+use Rattle.gd_script.specs.declared.turns.Faults.{Faults}
+use Rattle.gd_script.specs.declared.turns.Turn.{Turn}
+
+-- ---- a turn more
+
+calm_push : {T : Type 0} (step : Command → Answered T → Type 0) (was_at : ℕ → Content) (ds : List Line) (line : Line) (ts : List Turn) (t : Turn) (n mid m : Now T)
+    → length ds ≡ length ts → CalmChain step was_at ds ts n mid → Link step was_at line t mid m → IsCalm mid m t → CalmChain step was_at (ds ++ line ∷ []) (ts ++ t ∷ []) n m
+unfolding CalmChain
+calm_push {T = T} step was_at [] line [] t n mid m e c l k = (m, subst (λ (a : Now T). Link step was_at line t a m) c l, subst (λ (a : Now T). IsCalm a m t) c k, refl)
+calm_push step was_at [] line (s ∷ ts) t n mid m e c l k = absurd (omega (arith, e))
+calm_push step was_at (d ∷ ds) line [] t n mid m e c l k = absurd (omega (arith, e))
+calm_push step was_at (d ∷ ds) line (s ∷ ts) t n mid m e c l k = (c.0, c.1, c.2, calm_push step was_at ds line ts t c.0 mid m (omega (arith, e)) c.3 l k)
+
+calm_on : {T : Type 0} (n mid : Now T) (t : Turn) (ts : List Turn) → IsCalm n mid t → GoesOn n mid t ts
+calm_on n mid t ts k = record { answered = λ is. absurd (k.answered is); counted = inr (k.out, k.err) }
+
+-- the last turn, whatever failed in it
+last_push : {T : Type 0} (step : Command → Answered T → Type 0) (was_at : ℕ → Content) (ds : List Line) (line : Line) (ts : List Turn) (t : Turn) (n mid m : Now T)
+    → length ds ≡ length ts → CalmChain step was_at ds ts n mid → Link step was_at line t mid m → Chain step was_at (ds ++ line ∷ []) (ts ++ t ∷ []) n m
+unfolding Chain CalmChain
+last_push {T = T} step was_at [] line [] t n mid m e c l = (m, subst (λ (a : Now T). Link step was_at line t a m) c l, record { answered = λ is. refl; counted = inl refl }, refl)
+last_push step was_at [] line (s ∷ ts) t n mid m e c l = absurd (omega (arith, e))
+last_push step was_at (d ∷ ds) line [] t n mid m e c l = absurd (omega (arith, e))
+last_push step was_at (d ∷ ds) line (s ∷ ts) t n mid m e c l = (c.0, c.1, calm_on n c.0 s (ts ++ t ∷ []) c.2, last_push step was_at ds line ts t c.0 mid m (omega (arith, e)) c.3 l)
+
+calm_chain : {T : Type 0} (step : Command → Answered T → Type 0) (was_at : ℕ → Content) (ds : List Line) (ts : List Turn) (n m : Now T) → CalmChain step was_at ds ts n m → Chain step was_at ds ts n m
+unfolding Chain CalmChain
+calm_chain step was_at ds [] n m c = c
+calm_chain step was_at [] (t ∷ ts) n m c = c
+calm_chain step was_at (d ∷ ds) (t ∷ ts) n m c = (c.0, c.1, calm_on n c.0 t ts c.2, calm_chain step was_at ds ts c.0 m c.3)
+
+-- ---- more events
+
+chain_later : {T : Type 0} (step : Command → Answered T → Type 0) (was_at : ℕ → Content) (ds : List Line) (ts : List Turn) (n m : Now T) → CalmChain step was_at ds ts n m → n.moment ≤ m.moment
+unfolding CalmChain
+chain_later {T = T} step was_at ds [] n m c = omega (arith, ap (λ (k : Now T). k.moment) c)
+chain_later step was_at [] (t ∷ ts) n m c = absurd c
+chain_later step was_at (d ∷ ds) (t ∷ ts) n m c = omega (arith, c.1.later, chain_later step was_at ds ts c.0 m c.3)
+
+-- a link by other contents that agree at its moments
+link_same : {T : Type 0} (step : Command → Answered T → Type 0) (was_at now_at : ℕ → Content) (line : Line) (t : Turn) (n m : Now T) → now_at n.moment ≡ was_at n.moment → now_at m.moment ≡ was_at m.moment → Link step was_at line t n m → Link step now_at line t n m
+link_same step was_at now_at line t n m before after l = record {
+  done = l.done;
+  counts = l.counts;
+  later = l.later;
+  never_fall = l.never_fall;
+  reply = l.reply;
+  text = l.text;
+  printed = l.printed;
+  reading = l.reading;
+  answers =
+      subst (λ (c : Content). LineAnswers step line t.answer (record (answered_at was_at t n m l.reply l.text) { before = c; after = now_at m.moment })) (sym before)
+      (subst (λ (c : Content). LineAnswers step line t.answer (record (answered_at was_at t n m l.reply l.text) { after = c })) (sym after) l.answers);
+}
+
+chain_more : {T : Type 0} (step : Command → Answered T → Type 0) (first : Content) (es more : List Event) (ds : List Line) (ts : List Turn) (n m : Now T) → m.moment ≤ moment_after es
+    → CalmChain step (was first es) ds ts n m → CalmChain step (was first (more ++ es)) ds ts n m
+unfolding CalmChain
+chain_more step first es more ds [] n m le c = c
+chain_more step first es more [] (t ∷ ts) n m le c = c
+chain_more step first es more (d ∷ ds) (t ∷ ts) n m le c =
+    let on = chain_later step (was first es) ds ts c.0 m c.3 in
+    let b = (same_past first es more n.moment (omega (arith, c.1.later, on, le))).was in
+    let a = (same_past first es more c.0.moment (omega (arith, on, le))).was in
+    (c.0, link_same step (was first es) (was first (more ++ es)) d t n c.0 b a c.1, c.2, chain_more step first es more ds ts c.0 m le c.3)
+
+-- ---- counts
+
+count_push : (f g : Faults) (ts : List Turn) (t : Turn) → Counted f ts g → NeverFall g t.faults → AnswerCause t.answer (counts_of g) (counts_of t.faults) → Counted f (ts ++ t ∷ []) t.faults
+unfolding Counted
+count_push f g [] t c later cause = (subst (λ (h : Faults). NeverFall h t.faults) c later, subst (λ (h : Faults). AnswerCause t.answer (counts_of h) (counts_of t.faults)) c cause, refl)
+count_push f g (s ∷ ts) t c later cause = (c.0, c.1, count_push s.faults g ts t c.2 later cause)
+
+never_fall : {T : Type 0} (step : Command → Answered T → Type 0) (line : Line) (turns turns' : List Turn) (old new : Objects T) → Turned step line turns turns' old new → NeverFall (faults_of old) (faults_of new)
+never_fall step line turns turns' old new t = record {
+  input = omega (arith, t.input_faults);
+  out = t.steps.later.out;
+  err = t.err_later;
+  vault = t.steps.later.vault;
+  clock = t.steps.later.clock;
+}
+
+pub count_turn : {T : Type 0} (step : Command → Answered T → Type 0) (line : Line) (turns turns' : List Turn) (start old new : Objects T) → Turned step line turns turns' old new
+    → Counted (faults_of start) turns (faults_of old) → Counted (faults_of start) turns' (faults_of new)
+count_turn step line turns turns' start old new t c =
+    subst (λ (ts : List Turn). Counted (faults_of start) ts (faults_of new)) (sym t.pushed)
+    (subst (λ (f : Faults). Counted (faults_of start) (turns ++ t.turn ∷ []) f) t.counts
+    (count_push (faults_of start) (faults_of old) turns t.turn c
+    (subst (λ (f : Faults). NeverFall (faults_of old) f) (sym t.counts) (never_fall step line turns turns' old new t))
+    (subst (λ (f : Faults). AnswerCause t.turn.answer (counts_of (faults_of old)) (counts_of f)) (sym t.counts) t.steps.cause)))
+
+pub count_none : (f : Faults) → Counted f [] f
+unfolding Counted
+count_none f = refl
+
+-- ---- a line more
+
+-- the answer of a line as a link
+link_of : {T : Type 0} (step : Command → Answered T → Type 0) (line : Line) (turns turns' : List Turn) (first : Content) (es more : List Event) (old new : Objects T) (out : Text) (readings : List ℕ)
+    → old.scene.view.told ≡ Records first es → new.scene.view.told ≡ Records first (more ++ es)
+    → (t : Turned step line turns turns' old new) → (a : LineTold step line t.turn.answer t.turn.reading old.scene new.scene (content_after first es))
+    → Link step (was first (more ++ es)) line t.turn (now_of old es out readings) (now_of new (more ++ es) (out ++ a.text) (readings ++ given_in t.turn.reading))
+link_of {T = T} step line turns turns' first es more old new out readings told told' t a =
+    let up : moment_after es ≤ moment_after (more ++ es) = omega (arith, length-append more es) in
+    let before : was first (more ++ es) (moment_after es) ≡ content_after first es = (same_past first es more (moment_after es) (omega arith)).was ∙ was_now first es in
+    let at_end : content_of new.scene.view.told ≡ Some (content_after first (more ++ es)) = ap content_of told' in
+    let same : a.after ≡ content_after first (more ++ es) = let both : Some a.after ≡ Some (content_after first (more ++ es)) = sym a.content ∙ at_end in cc in
+    let after : was first (more ++ es) (moment_after (more ++ es)) ≡ a.after = was_now first (more ++ es) ∙ sym same in
+    let n = now_of old es out readings in
+    let m = now_of new (more ++ es) (out ++ a.text) (readings ++ given_in t.turn.reading) in record {
+      done = sym (t.moment first (more ++ es) told');
+      counts = sym t.counts;
+      later = up;
+      never_fall = never_fall step line turns turns' old new t;
+      reply = a.reply;
+      text = a.text;
+      printed = refl;
+      reading = refl;
+      answers =
+          subst (λ (c : Content). LineAnswers step line t.turn.answer (record (answered_at (was first (more ++ es)) t.turn n m a.reply a.text) { before = c })) (sym before)
+          (subst (λ (c : Content). LineAnswers step line t.turn.answer (record (answered_at (was first (more ++ es)) t.turn n m a.reply a.text) { before = content_after first es; after = c })) (sym after) a.is);
+    }
+
+pub gives_none : (told : Option Readings) → GivesMore told told []
+gives_none told = λ r is. (r.next, is ∙ ap (λ (g : List ℕ). Some (record { given = g; next = r.next })) (sym (append-nil r.given)))
+
+gives_more : (a b c : Option Readings) (xs ys : List ℕ) → GivesMore a b xs → GivesMore b c ys → GivesMore a c (xs ++ ys)
+gives_more a b c xs ys f h = λ r is.
+    let m = f r is in
+    let n = h (record { given = r.given ++ xs; next = m.0 }) m.1 in
+    (n.0, n.1 ∙ ap (λ (g : List ℕ). Some (record { given = g; next = n.0 })) (append_assoc r.given xs ys))
+
+-- how a turn is put behind a calm chain
+Pushes : {T : Type 0} → (Command → Answered T → Type 0) → Linked T → List Line → Line → List Turn → Turn → (old mid new : Objects T) → Type 0
+Pushes step linked ds line ts t old mid new = (was_at : ℕ → Content) (es ev ev' : List Event) (out out' : Text) (rs rs' : List ℕ)
+    → CalmChain step was_at ds ts (now_of old es [] []) (now_of mid ev out rs) → Link step was_at line t (now_of mid ev out rs) (now_of new ev' out' rs')
+    → linked was_at (ds ++ line ∷ []) (ts ++ t ∷ []) (now_of old es [] []) (now_of new ev' out' rs')
+
+ran_more : {T : Type 0} (step : Command → Answered T → Type 0) (linked : Linked T) (ds : List Line) (line : Line) (turns turns' : List Turn) (first : Content) (es : List Event) (old mid new : Objects T)
+    → (t : Turned step line turns turns' mid new) → Ran (CalmChain step) ds turns first es old mid → Pushes step linked ds line turns t.turn old mid new
+    → Ran linked (ds ++ line ∷ []) (turns ++ t.turn ∷ []) first es old new
+unfolding Pushes
+ran_more {T = T} step linked ds line turns turns' first es old mid new t r push =
+    let events : List Event = r.more ++ es in
+    let frame : Frame AnyFile AnyName (Records first events) new.scene.view.told = subst (λ (u : Told). Frame AnyFile AnyName u new.scene.view.told) r.told t.steps.grows.told in
+    let more : List Event = frame.0 in
+    let told : new.scene.view.told ≡ Records first (more ++ events) = frame.1 in
+    let here : content_of mid.scene.view.told ≡ Some (content_after first events) = ap content_of r.told in
+    let a = t.steps.told (content_after first events) here in
+    let link = link_of step line turns turns' first events more mid new r.out r.readings r.told told t a in
+    let c = chain_more step first events more ds turns (now_of old es [] []) (now_of mid events r.out r.readings) (omega arith) r.chain in
+    let pushed = push (was first (more ++ events)) es events (more ++ events) r.out (r.out ++ a.text) r.readings (r.readings ++ given_in t.turn.reading) c link in
+    let all : more ++ events ≡ (more ++ r.more) ++ es = sym (append_assoc more r.more es) in
+    record {
+      more = more ++ r.more;
+      told = told ∙ ap (Records first) all;
+      out = r.out ++ a.text;
+      written = all-after old.scene.written mid.scene.written new.scene.written r.out a.text r.written a.written;
+      readings = r.readings ++ given_in t.turn.reading;
+      clock = gives_more old.scene.told mid.scene.told new.scene.told r.readings (given_in t.turn.reading) r.clock t.steps.clock;
+      chain = subst (λ (ev : List Event). linked (was first ev) (ds ++ line ∷ []) (turns ++ t.turn ∷ []) (now_of old es [] []) (now_of new ev (r.out ++ a.text) (r.readings ++ given_in t.turn.reading))) all pushed;
+    }
+
+runs_more : {T : Type 0} (step : Command → Answered T → Type 0) (linked : Linked T) (ds : List Line) (line : Line) (turns turns' : List Turn) (old mid new : Objects T)
+    → (t : Turned step line turns turns' mid new) → RunsBy (CalmChain step) ds turns old mid → Pushes step linked ds line turns t.turn old mid new
+    → RunsBy linked (ds ++ line ∷ []) turns' old new
+runs_more step linked ds line turns turns' old mid new t runs push =
+    subst (λ (ts : List Turn). RunsBy linked (ds ++ line ∷ []) ts old new) (sym t.pushed)
+    (λ first es told. ran_more step linked ds line turns turns' first es old mid new t (runs first es told) push)
+
+-- the last turn
+pub runs_last : {T : Type 0} (step : Command → Answered T → Type 0) (ds : List Line) (line : Line) (turns turns' : List Turn) (old mid new : Objects T)
+    → length ds ≡ length turns → Turned step line turns turns' mid new → RunsBy (CalmChain step) ds turns old mid → RunsBy (Chain step) (ds ++ line ∷ []) turns' old new
+unfolding Pushes
+runs_last step ds line turns turns' old mid new same t runs =
+    runs_more step (Chain step) ds line turns turns' old mid new t runs
+    (λ was_at es ev ev' out out' rs rs' c link. last_push step was_at ds line turns t.turn (now_of old es [] []) (now_of mid ev out rs) (now_of new ev' out' rs') same c link)
+
+-- a turn behind which another may come
+pub runs_on : {T : Type 0} (step : Command → Answered T → Type 0) (ds : List Line) (line : Line) (turns turns' : List Turn) (old mid new : Objects T)
+    → length ds ≡ length turns → (t : Turned step line turns turns' mid new) → t.turn.answer ≢ answer.Command SinkFault → new.scene.out_faults ≡ mid.scene.out_faults → new.err_faults ≡ mid.err_faults
+    → RunsBy (CalmChain step) ds turns old mid → RunsBy (CalmChain step) (ds ++ line ∷ []) turns' old new
+unfolding Pushes
+runs_on step ds line turns turns' old mid new same t calm out err runs =
+    runs_more step (CalmChain step) ds line turns turns' old mid new t runs
+    (λ was_at es ev ev' out_ out' rs rs' c link. calm_push step was_at ds line turns t.turn (now_of old es [] []) (now_of mid ev out_ rs) (now_of new ev' out' rs') same c link (record { answered = calm; out = out; err = err }))
+
+-- the turns so far, where no other comes
+pub runs_calm : {T : Type 0} (step : Command → Answered T → Type 0) (ds : List Line) (turns : List Turn) (old new : Objects T) → RunsBy (CalmChain step) ds turns old new → RunsBy (Chain step) ds turns old new
+runs_calm step ds turns old new runs = λ first es told.
+    let r = runs first es told in
+    record { more = r.more; told = r.told; out = r.out; written = r.written; readings = r.readings; clock = r.clock; chain = calm_chain step (was first (r.more ++ es)) ds turns (now_of old es [] []) (now_of new (r.more ++ es) r.out r.readings) r.chain }
+
+pub runs_none : {T : Type 0} (step : Command → Answered T → Type 0) (o : Objects T) → RunsBy (CalmChain step) [] [] o o
+unfolding CalmChain
+runs_none step o = λ first es told. record { more = []; told = told; out = []; written = put-nothing o.scene.written; readings = []; clock = gives_none o.scene.told; chain = refl }
+
+-- the same where only the input was asked since
+pub runs_reread : {T : Type 0} (step : Command → Answered T → Type 0) (ds : List Line) (turns : List Turn) (old mid new : Objects T)
+    → new.scene ≡ mid.scene → new.input_faults ≡ mid.input_faults → new.err_faults ≡ mid.err_faults → RunsBy (CalmChain step) ds turns old mid → RunsBy (CalmChain step) ds turns old new
+runs_reread {T = T} step ds turns old mid new scene input err runs = λ first es told.
+    let r = runs first es told in
+    let at_now : (ev : List Event) (out : Text) (rs : List ℕ) → now_of mid ev out rs ≡ now_of new ev out rs = λ ev out rs. λ i. record {
+      held = (sym scene i).held;
+      moment = moment_after ev;
+      faults = record { input = sym input i; out = (sym scene i).out_faults; err = sym err i; vault = (sym scene i).view.faults; clock = (sym scene i).clock_faults };
+      out = out;
+      readings = rs;
+    } in
+    record {
+      more = r.more;
+      told = ap (λ (s : answers.Scene T). s.view.told) scene ∙ r.told;
+      out = r.out;
+      written = ap (λ (s : answers.Scene T). s.written) scene ∙ r.written;
+      readings = r.readings;
+      clock = subst (λ (s : answers.Scene T). GivesMore old.scene.told s.told r.readings) (sym scene) r.clock;
+      chain = subst (λ (n : Now T). CalmChain step (was first (r.more ++ es)) ds turns (now_of old es [] []) n) (at_now (r.more ++ es) r.out r.readings) r.chain;
+    }

@@ -1,0 +1,367 @@
+-- The loop over lines: where a run stands after one more, and how it ends.
+use Rattle.std.proofs.Common.{◌≡◌, ◌≢◌, ℕ, ◌+◌, ◌-◌, ◌<◌, ◌≤◌, ◌^◌, Bool, true, false, List, [], ◌∷◌, ◌++◌, length, drop, Option, Some, None, option_map, Result, Ok, Err, refl, sym, ap, subst, ◌∙◌, arith, length-append}
+use Rattle.std.proofs.lemmas.List.{append-nil, append_assoc}
+use Rattle.gd_base.specs.Causes.{Rose}
+use Rattle.gd_base.specs.Sources.{IsAtEnd}
+use Rattle.gd_base.specs.Streams.{WritesFront, and_then}
+use Rattle.gd_base.proofs.Writes.{all-after, front-after, put-nothing}
+use Rattle.gd_lang.specs.Commands.{command_of_line}
+use Rattle.gd_lang.specs.declared.commands.Command.{Command}
+use Rattle.gd_vault.specs.Views.{View}
+use Rattle.gd_script.specs.Answers.{Answered}
+use Rattle.gd_script.specs.Chain.{CalmChain, Chain, Counted}
+use Rattle.gd_script.specs.Lines.{Line, commands_of, is_quit, has_feed}
+use Rattle.gd_script.specs.Reading.{Gives, IsWithin, Reading, Takes, reading}
+use Rattle.gd_script.specs.Run.{AfterNext, Begins, Cut, Ended, EndsFor, Nexts, RunsBy, SaysFor, Standing, reread}
+use Rattle.gd_script.specs.Says.{error_line, error_lines}
+use Rattle.gd_script.specs.Turns.{CalmTurned, ErrTurned, Objects, OutTurned, TurnEnds, Turned, Untouched, faults_of, last_ending}
+use Rattle.gd_script.specs.declared.ending.Ending.{Ending}
+use Rattle.gd_script.specs.declared.ending.Ending.TheVariants.{Read, InputFailed, TooLong, OutputFailed, ErrorFailed, Starved}
+use Rattle.gd_script.specs.declared.reader.Lines.{Lines}
+use Rattle.gd_script.specs.declared.reader.Next.{Next}
+use Rattle.gd_script.specs.declared.reader.Next.TheVariants as next
+use Rattle.gd_script.specs.declared.turns.Faults.{Faults}
+use Rattle.gd_script.specs.declared.turns.Turn.{Turn}
+use Rattle.gd_script.proofs.Chains.{count_none, count_turn, runs_calm, runs_last, runs_none, runs_on, runs_reread}
+use Rattle.gd_script.proofs.Cutting.{all_end, all_last, all_quit, begins_line, begins_none, cut_line, cut_none, whole_front}
+use Rattle.gd_script.proofs.Pieces.{takes_none, told_twice}
+
+-- ---- error lines
+
+lines_push : (n : ℕ) (ts : List Turn) (t : Turn) → error_lines n (ts ++ t ∷ []) ≡ error_lines n ts ++ error_line (n + length ts) t.answer
+unfolding error_lines
+lines_push n [] t = append-nil (error_line n t.answer) ∙ ap (λ (k : ℕ). error_line k t.answer) (omega arith)
+lines_push n (s ∷ ts) t =
+    let number : (n + 1) + length ts ≡ n + length (s ∷ ts) = omega arith in
+    ap (λ (bs : List ℕ). error_line n s.answer ++ bs) (lines_push (n + 1) ts t)
+    ∙ (sym (append_assoc (error_line n s.answer) (error_lines (n + 1) ts) (error_line ((n + 1) + length ts) t.answer))
+    ∙ ap (λ (k : ℕ). (error_line n s.answer ++ error_lines (n + 1) ts) ++ error_line k t.answer) number)
+
+lines_of_turn : (turns turns' : List Turn) (t : Turn) → turns' ≡ turns ++ t ∷ [] → error_lines 1 turns' ≡ error_lines 1 turns ++ error_line (length turns + 1) t.answer
+lines_of_turn turns turns' t pushed =
+    ap (error_lines 1) pushed ∙ (lines_push 1 turns t ∙ ap (λ (k : ℕ). error_lines 1 turns ++ error_line k t.answer) (omega arith))
+
+no_error_lines : error_lines 1 [] ≡ []
+unfolding error_lines
+no_error_lines = refl
+
+-- ---- the beginning
+
+told_all : (o : Option (List ℕ)) → o ≡ option_map (λ (xs : List ℕ). [] ++ xs) o
+told_all None = refl
+told_all (Some xs) = refl
+
+pub standing_none : {T : Type 0} (step : Command → Answered T → Type 0) (ready : View → T → Type 0) (r : Reading) (turns : List Turn) (o : Objects T)
+    → ready o.scene.view o.scene.held → turns ≡ [] → r.waiting ≡ [] → r.taken ≡ 0 → Standing step ready r turns o o
+standing_none {T = T} step ready r turns o is_ready none empty zero_taken =
+    let few : length turns + length r.waiting ≤ r.taken = omega (arith, ap length none, ap length empty, zero_taken) in record {
+      is_ready = is_ready;
+      ds = [];
+      taken = [];
+      took = told_all o.left;
+      many = zero_taken;
+      few = few;
+      cut = subst (λ (w : List ℕ). Cut [] [] w) (sym empty) cut_none;
+      same = sym (ap length none);
+      ran = subst (λ (ts : List Turn). RunsBy (CalmChain step) [] ts o o) (sym none) (runs_none step o);
+      counted = subst (λ (ts : List Turn). Counted (faults_of o) ts (faults_of o)) (sym none) (count_none (faults_of o));
+      said = subst (λ (ts : List Turn). o.said ≡ and_then o.said (error_lines 1 ts)) (sym none) (subst (λ (bs : List ℕ). o.said ≡ and_then o.said bs) (sym no_error_lines) (put-nothing o.said));
+      input_calm = refl;
+      out_calm = refl;
+      err_calm = refl;
+    }
+
+-- ---- a line was read
+
+-- what stands before a turn, after its line was read
+pub record Before {T : Type 0} (step : Command → Answered T → Type 0) (ds : List Line) (taken : List ℕ) (turns : List Turn) (old mid : Objects T) : Type 0 where
+  pub took : old.left ≡ option_map (λ xs. taken ++ xs) mid.left
+  pub same : length ds ≡ length turns
+  pub ran : RunsBy (CalmChain step) ds turns old mid
+  pub counted : Counted (faults_of old) turns (faults_of mid)
+  pub said : mid.said ≡ and_then old.said (error_lines 1 turns)
+  pub input_calm : mid.input_faults ≡ old.input_faults
+  pub out_calm : mid.scene.out_faults ≡ old.scene.out_faults
+  pub err_calm : mid.err_faults ≡ old.err_faults
+
+took_more : (old mid new : Option (List ℕ)) (taken got : List ℕ) → old ≡ option_map (λ (xs : List ℕ). taken ++ xs) mid → mid ≡ option_map (λ (xs : List ℕ). got ++ xs) new
+    → old ≡ option_map (λ (xs : List ℕ). (taken ++ got) ++ xs) new
+took_more old mid new taken got a b = a ∙ (ap (option_map (λ (xs : List ℕ). taken ++ xs)) b ∙ told_twice taken got new)
+
+-- its line was read without a fault of the input
+before : {T : Type 0} (step : Command → Answered T → Type 0) (ready : View → T → Type 0) (r : Reading) (turns : List Turn) (old mid new : Objects T) (got : List ℕ)
+    → (s : Standing step ready r turns old mid) → mid.left ≡ option_map (λ (xs : List ℕ). got ++ xs) new.left → new.input_faults ≡ mid.input_faults
+    → Before step s.ds (s.taken ++ got) turns old (reread mid new)
+before step ready r turns old mid new got s left input = record {
+  took = took_more old.left mid.left new.left s.taken got s.took left;
+  same = s.same;
+  ran = runs_reread step s.ds turns old mid (reread mid new) refl input refl s.ran;
+  counted = subst (λ (k : ℕ). Counted (faults_of old) turns (record (faults_of mid) { input = k })) (sym input) s.counted;
+  said = s.said;
+  input_calm = input ∙ s.input_calm;
+  out_calm = s.out_calm;
+  err_calm = s.err_calm;
+}
+
+-- ---- the turn
+
+said_more : {T : Type 0} (step : Command → Answered T → Type 0) (line : Line) (turns turns' : List Turn) (old mid new : Objects T) (t : Turned step line turns turns' mid new)
+    → mid.said ≡ and_then old.said (error_lines 1 turns) → new.said ≡ and_then mid.said (error_line (length turns + 1) t.turn.answer) → new.said ≡ and_then old.said (error_lines 1 turns')
+said_more step line turns turns' old mid new t all one =
+    all-after old.said mid.said new.said (error_lines 1 turns) (error_line (length turns + 1) t.turn.answer) all one
+    ∙ ap (and_then old.said) (sym (lines_of_turn turns turns' t.turn t.pushed))
+
+front_more : {T : Type 0} (step : Command → Answered T → Type 0) (line : Line) (turns turns' : List Turn) (old mid new : Objects T) (t : Turned step line turns turns' mid new)
+    → mid.said ≡ and_then old.said (error_lines 1 turns) → WritesFront old.said new.said (error_lines 1 turns')
+front_more step line turns turns' old mid new t all =
+    subst (λ (bs : List ℕ). WritesFront old.said new.said bs) (sym (lines_of_turn turns turns' t.turn t.pushed))
+    (front-after old.said mid.said new.said (error_lines 1 turns) (error_line (length turns + 1) t.turn.answer) all t.said)
+
+same_more : {T : Type 0} (step : Command → Answered T → Type 0) (line : Line) (ds : List Line) (turns turns' : List Turn) (mid new : Objects T) → Turned step line turns turns' mid new → length ds ≡ length turns → length (ds ++ line ∷ []) ≡ length turns'
+same_more step line ds turns turns' mid new t same =
+    length-append ds (line ∷ []) ∙ (ap (λ (k : ℕ). k + 1) same ∙ (sym (length-append turns (t.turn ∷ [])) ∙ sym (ap length t.pushed)))
+
+-- a turn more, behind which another may come
+pub stands_more : {T : Type 0} (step : Command → Answered T → Type 0) (ready : View → T → Type 0) (r r' : Reading) (line : List ℕ) (turns turns' : List Turn) (old mid new : Objects T) (got : List ℕ)
+    → (s : Standing step ready r turns old mid) → Takes got (record r { left = mid.left; faults = mid.input_faults }) (record r' { left = new.left; faults = new.input_faults })
+    → r.waiting ++ got ≡ line ++ 10 ∷ r'.waiting → has_feed line ≡ false → new.input_faults ≡ mid.input_faults
+    → CalmTurned step (command_of_line line) false turns turns' (reread mid new) new → ready new.scene.view new.scene.held
+    → Standing step ready r' turns' old new
+stands_more step ready r r' line turns turns' old mid new got s takes is plain input c is_ready =
+    let b = before step ready r turns old mid new got s takes.left input in
+    let t = c.turned in
+    let d = command_of_line line in
+    let pushed : length turns' ≡ length turns + 1 = ap length t.pushed ∙ length-append turns (t.turn ∷ []) in
+    let sizes : length r.waiting + length got ≡ length line + length (10 ∷ r'.waiting) = sym (length-append r.waiting got) ∙ (ap length is ∙ length-append line (10 ∷ r'.waiting)) in
+    let all : length (s.taken ++ got) ≡ length s.taken + length got = length-append s.taken got in
+    record {
+      is_ready = is_ready;
+      ds = s.ds ++ d ∷ [];
+      taken = s.taken ++ got;
+      took = b.took;
+      many = omega (arith, takes.taken, s.many, all);
+      few = omega (arith, takes.taken, s.few, pushed, sizes);
+      cut = cut_line s.ds s.taken r.waiting got line r'.waiting s.cut is plain c.quits_is;
+      same = same_more step d s.ds turns turns' (reread mid new) new t b.same;
+      ran = runs_on step s.ds d turns turns' old (reread mid new) new b.same t c.calm.answered c.calm.out c.calm.err b.ran;
+      counted = count_turn step d turns turns' old (reread mid new) new t b.counted;
+      said = said_more step d turns turns' old (reread mid new) new t b.said c.calm.said;
+      input_calm = b.input_calm;
+      out_calm = c.calm.out ∙ b.out_calm;
+      err_calm = c.calm.err ∙ b.err_calm;
+    }
+
+-- ---- the end with a turn
+
+ended_turn : {T : Type 0} (step : Command → Answered T → Type 0) (ending : Ending) (line : Line) (ds : List Line) (taken : List ℕ) (turns turns' : List Turn) (old mid new : Objects T)
+    → Before step ds taken turns old mid → mid.left ≡ new.left → Turned step line turns turns' mid new
+    → ((rest : List ℕ) → new.left ≡ Some rest → Begins (commands_of (taken ++ rest)) (ds ++ line ∷ []))
+    → SaysFor ending turns' old new → EndsFor ending (ds ++ line ∷ []) taken new new → Ended step ending turns' old new
+ended_turn step ending line ds taken turns turns' old mid new b left t begins says why = record {
+  mid = new;
+  scene = refl;
+  said_same = refl;
+  err_same = refl;
+  input_later = omega arith;
+  ds = ds ++ line ∷ [];
+  taken = taken;
+  took = b.took ∙ ap (option_map (λ xs. taken ++ xs)) left;
+  same = same_more step line ds turns turns' mid new t b.same;
+  begins = begins;
+  ran = runs_last step ds line turns turns' old mid new b.same t b.ran;
+  counted = count_turn step line turns turns' old mid new t b.counted;
+  says = says;
+  why = why;
+}
+
+-- by how the run ends in the turn
+ended_by : {T : Type 0} (step : Command → Answered T → Type 0) (end : Option Ending) (line : Line) (ds : List Line) (taken : List ℕ) (turns turns' : List Turn) (old mid new : Objects T)
+    → Before step ds taken turns old mid → mid.left ≡ new.left → TurnEnds step line end turns turns' mid new
+    → ((rest : List ℕ) → new.left ≡ Some rest → Begins (commands_of (taken ++ rest)) (ds ++ line ∷ []))
+    → ((rest : List ℕ) → new.left ≡ Some rest → Begins (commands_of (taken ++ rest)) ds)
+    → (last_ending end ≡ Read → (rest : List ℕ) → new.left ≡ Some rest → commands_of (taken ++ rest) ≡ ds ++ line ∷ [])
+    → Ended step (last_ending end) turns' old new
+ended_by step None line ds taken turns turns' old mid new b left t begins none all =
+    ended_turn step Read line ds taken turns turns' old mid new b left t.turned begins
+    (t.calm.out ∙ b.out_calm, t.calm.err ∙ b.err_calm, said_more step line turns turns' old mid new t.turned b.said t.calm.said) (all refl)
+ended_by step (Some Read) line ds taken turns turns' old mid new b left t begins none all =
+    ended_turn step Read line ds taken turns turns' old mid new b left t.turned begins
+    (t.calm.out ∙ b.out_calm, t.calm.err ∙ b.err_calm, said_more step line turns turns' old mid new t.turned b.said t.calm.said) (all refl)
+ended_by step (Some OutputFailed) line ds taken turns turns' old mid new b left t begins none all =
+    ended_turn step OutputFailed line ds taken turns turns' old mid new b left t.turned begins
+    (subst (λ (k : ℕ). Rose k new.scene.out_faults) b.out_calm t.rose, t.err ∙ b.err_calm, said_more step line turns turns' old mid new t.turned b.said t.said) tt
+ended_by step (Some ErrorFailed) line ds taken turns turns' old mid new b left t begins none all =
+    ended_turn step ErrorFailed line ds taken turns turns' old mid new b left t.turned begins
+    (subst (λ (k : ℕ). Rose k new.err_faults) b.err_calm t.rose, front_more step line turns turns' old mid new t.turned b.said) tt
+ended_by {T = T} step (Some Starved) line ds taken turns turns' old mid new b left t begins none all = record {
+  mid = mid;
+  scene = ap (λ (o : Objects T). o.scene) t.same;
+  said_same = ap (λ (o : Objects T). o.said) t.same;
+  err_same = ap (λ (o : Objects T). o.err_faults) t.same;
+  input_later = omega (arith, ap (λ (o : Objects T). o.input_faults) t.same);
+  ds = ds;
+  taken = taken;
+  took = b.took ∙ ap (option_map (λ xs. taken ++ xs)) left;
+  same = b.same ∙ sym (ap length t.kept);
+  begins = none;
+  ran = subst (λ (ts : List Turn). RunsBy (Chain step) ds ts old mid) (sym t.kept) (runs_calm step ds turns old mid b.ran);
+  counted = subst (λ (ts : List Turn). Counted (faults_of old) ts (faults_of mid)) (sym t.kept) b.counted;
+  says = (b.out_calm, b.err_calm, subst (λ (ts : List Turn). mid.said ≡ and_then old.said (error_lines 1 ts)) (sym t.kept) b.said);
+  why = tt;
+}
+ended_by step (Some InputFailed) line ds taken turns turns' old mid new b left t begins none all = absurd t
+ended_by step (Some TooLong) line ds taken turns turns' old mid new b left t begins none all = absurd t
+
+-- ---- the end without one
+
+ended_none : {T : Type 0} (step : Command → Answered T → Type 0) (ready : View → T → Type 0) (ending : Ending) (r : Reading) (turns turns' : List Turn) (old mid new : Objects T) (got : List ℕ)
+    → (s : Standing step ready r turns old mid) → mid.left ≡ option_map (λ (xs : List ℕ). got ++ xs) new.left → mid.input_faults ≤ new.input_faults → Untouched turns turns' (reread mid new) new
+    → SaysFor ending turns' old mid → EndsFor ending s.ds (s.taken ++ got) mid new → Ended step ending turns' old new
+ended_none {T = T} step ready ending r turns turns' old mid new got s left later u says why = record {
+  mid = mid;
+  scene = ap (λ (o : Objects T). o.scene) u.same;
+  said_same = ap (λ (o : Objects T). o.said) u.same;
+  err_same = ap (λ (o : Objects T). o.err_faults) u.same;
+  input_later = later;
+  ds = s.ds;
+  taken = s.taken ++ got;
+  took = took_more old.left mid.left new.left s.taken got s.took left;
+  same = s.same ∙ sym (ap length u.kept);
+  begins = λ rest is. begins_none s.ds s.taken r.waiting got rest s.cut;
+  ran = subst (λ (ts : List Turn). RunsBy (Chain step) s.ds ts old mid) (sym u.kept) (runs_calm step s.ds turns old mid s.ran);
+  counted = subst (λ (ts : List Turn). Counted (faults_of old) ts (faults_of mid)) (sym u.kept) s.counted;
+  says = says;
+  why = why;
+}
+
+said_so_far : {T : Type 0} (turns turns' : List Turn) (old mid : Objects T) → turns' ≡ turns → mid.said ≡ and_then old.said (error_lines 1 turns) → mid.said ≡ and_then old.said (error_lines 1 turns')
+said_so_far turns turns' old mid same said = subst (λ (ts : List Turn). mid.said ≡ and_then old.said (error_lines 1 ts)) (sym same) said
+
+at_end : (left : Option (List ℕ)) (rest : List ℕ) → IsAtEnd left → left ≡ Some rest → rest ≡ []
+at_end left rest e is =
+    let none : List ℕ = [] in
+    let both : Some rest ≡ Some none = sym is ∙ (e ∙ ap (option_map (λ (xs : List ℕ). none)) is) in cc
+
+-- ---- the next line
+
+none_some : (e : Ending) → None ≡ Some e → ⊥
+none_some e is = cc
+
+next_on : {T : Type 0} (step : Command → Answered T → Type 0) (ready : View → T → Type 0) (n : Result Next Ending) (turns turns' : List Turn) (a b : Lines) (old mid new : Objects T)
+    → Standing step ready (reading a mid.left mid.input_faults) turns old mid → Gives n (reading a mid.left mid.input_faults) (reading b new.left new.input_faults)
+    → AfterNext step n None turns turns' (reread mid new) new → ready new.scene.view new.scene.held → Standing step ready (reading b new.left new.input_faults) turns' old new
+next_on step ready (Ok (next.Line line)) turns turns' a b old mid new s g after is_ready =
+    stands_more step ready (reading a mid.left mid.input_faults) (reading b new.left new.input_faults) line.items turns turns' old mid new g.got s g.takes g.is.0 g.is.1 g.is.2 after is_ready
+next_on step ready (Ok (next.Last line)) turns turns' a b old mid new s g after is_ready = absurd (none_some (last_ending after.0) after.2)
+next_on step ready (Ok next.End) turns turns' a b old mid new s g after is_ready = absurd (none_some Read after.0)
+next_on step ready (Err e) turns turns' a b old mid new s g after is_ready = absurd (none_some e after.0)
+
+pub stands_next : {T : Type 0} (step : Command → Answered T → Type 0) (ready : View → T → Type 0) (turns turns' : List Turn) (a b : Lines) (old mid new : Objects T)
+    → Standing step ready (reading a mid.left mid.input_faults) turns old mid → Nexts step None turns turns' a b mid new → ready new.scene.view new.scene.held
+    → Standing step ready (reading b new.left new.input_faults) turns' old new
+stands_next step ready turns turns' a b old mid new s x is_ready = next_on step ready x.next turns turns' a b old mid new s x.gives x.after is_ready
+
+quit_of : {T : Type 0} (step : Command → Answered T → Type 0) (line : Line) (ending : Ending) (turns turns' : List Turn) (mid new : Objects T) → TurnEnds step line (Some ending) turns turns' mid new → ending ≡ Read → is_quit line ≡ true
+quit_of step line Read turns turns' mid new t is = t.quits_is
+quit_of step line InputFailed turns turns' mid new t is = absurd t
+quit_of step line TooLong turns turns' mid new t is = absurd t
+quit_of step line OutputFailed turns turns' mid new t is = cc
+quit_of step line ErrorFailed turns turns' mid new t is = cc
+quit_of step line Starved turns turns' mid new t is = cc
+
+some_inside : (e f : Ending) → Some e ≡ Some f → e ≡ f
+some_inside e f is = cc
+
+fault_why : {T : Type 0} (step : Command → Answered T → Type 0) (ready : View → T → Type 0) (e : Ending) (turns turns' : List Turn) (a b : Lines) (old mid new : Objects T)
+    → (s : Standing step ready (reading a mid.left mid.input_faults) turns old mid) → (g : Gives (Err e) (reading a mid.left mid.input_faults) (reading b new.left new.input_faults))
+    → Untouched turns turns' (reread mid new) new → Ended step e turns' old new
+fault_why step ready InputFailed turns turns' a b old mid new s g u =
+    ended_none step ready InputFailed (reading a mid.left mid.input_faults) turns turns' old mid new g.got s g.takes.left g.is.2 u
+    (s.out_calm, s.err_calm, said_so_far turns turns' old mid u.kept s.said) (g.is.1, whole_front s.ds s.taken _ g.got s.cut g.is.0)
+fault_why step ready TooLong turns turns' a b old mid new s g u =
+    let many : length (s.taken ++ g.got) ≡ 2 ^ 32 = omega (arith, g.is.1, g.takes.taken, s.many, length-append s.taken g.got) in
+    ended_none step ready TooLong (reading a mid.left mid.input_faults) turns turns' old mid new g.got s g.takes.left (omega (arith, g.is.2)) u
+    (s.out_calm, s.err_calm, said_so_far turns turns' old mid u.kept s.said) (many, whole_front s.ds s.taken _ g.got s.cut g.is.0)
+fault_why step ready Starved turns turns' a b old mid new s g u =
+    ended_none step ready Starved (reading a mid.left mid.input_faults) turns turns' old mid new g.got s g.takes.left (omega (arith, g.is)) u
+    (s.out_calm, s.err_calm, said_so_far turns turns' old mid u.kept s.said) tt
+fault_why step ready Read turns turns' a b old mid new s g u = absurd g.is
+fault_why step ready OutputFailed turns turns' a b old mid new s g u = absurd g.is
+fault_why step ready ErrorFailed turns turns' a b old mid new s g u = absurd g.is
+
+last_all : {T : Type 0} (step : Command → Answered T → Type 0) (ready : View → T → Type 0) (r : Reading) (line : List ℕ) (turns : List Turn) (old mid new : Objects T) (got : List ℕ)
+    → (s : Standing step ready r turns old mid) → r.waiting ++ got ≡ line → has_feed line ≡ false → 0 < length line → IsAtEnd new.left
+    → (rest : List ℕ) → new.left ≡ Some rest → commands_of ((s.taken ++ got) ++ rest) ≡ s.ds ++ command_of_line line ∷ []
+last_all step ready r line turns old mid new got s is plain some end rest left =
+    ap (λ (bs : List ℕ). commands_of ((s.taken ++ got) ++ bs)) (at_end new.left rest end left) ∙ all_last s.ds s.taken r.waiting got line s.cut is plain some
+
+next_ends : {T : Type 0} (step : Command → Answered T → Type 0) (ready : View → T → Type 0) (n : Result Next Ending) (ending : Ending) (turns turns' : List Turn) (a b : Lines) (old mid new : Objects T)
+    → Standing step ready (reading a mid.left mid.input_faults) turns old mid → Gives n (reading a mid.left mid.input_faults) (reading b new.left new.input_faults)
+    → AfterNext step n (Some ending) turns turns' (reread mid new) new → Ended step ending turns' old new
+next_ends step ready (Ok (next.Line line)) ending turns turns' a b old mid new s g after =
+    let r = reading a mid.left mid.input_faults in
+    ended_by step (Some ending) (command_of_line line.items) s.ds (s.taken ++ g.got) turns turns' old (reread mid new) new
+    (before step ready r turns old mid new g.got s g.takes.left g.is.2) refl after
+    (λ rest left. begins_line s.ds s.taken r.waiting g.got line.items (reading b new.left new.input_faults).waiting rest s.cut g.is.0 g.is.1)
+    (λ rest left. begins_none s.ds s.taken r.waiting g.got rest s.cut)
+    (λ read rest left. all_quit s.ds s.taken r.waiting g.got line.items (reading b new.left new.input_faults).waiting rest s.cut g.is.0 g.is.1 (quit_of step (command_of_line line.items) ending turns turns' (reread mid new) new after read))
+next_ends step ready (Ok (next.Last line)) ending turns turns' a b old mid new s g after =
+    let r = reading a mid.left mid.input_faults in
+    let all = last_all step ready r line.items turns old mid new g.got s g.is.0 g.is.1 g.is.2 g.is.3 in
+    subst (λ (e : Ending). Ended step e turns' old new) (sym (some_inside ending (last_ending after.0) after.2))
+    (ended_by step after.0 (command_of_line line.items) s.ds (s.taken ++ g.got) turns turns' old (reread mid new) new
+    (before step ready r turns old mid new g.got s g.takes.left g.is.4) refl after.1
+    (λ rest left. ([], all rest left ∙ sym (append-nil (s.ds ++ command_of_line line.items ∷ []))))
+    (λ rest left. begins_none s.ds s.taken r.waiting g.got rest s.cut)
+    (λ read rest left. all rest left))
+next_ends step ready (Ok next.End) ending turns turns' a b old mid new s g after =
+    let r = reading a mid.left mid.input_faults in
+    let u = after.1 in
+    subst (λ (e : Ending). Ended step e turns' old new) (sym (some_inside ending Read after.0))
+    (ended_none step ready Read r turns turns' old mid new g.got s g.takes.left (omega (arith, g.is.2)) u
+    (s.out_calm, s.err_calm, said_so_far turns turns' old mid u.kept s.said)
+    (λ rest left. ap (λ (bs : List ℕ). commands_of ((s.taken ++ g.got) ++ bs)) (at_end new.left rest g.is.1 left) ∙ all_end s.ds s.taken r.waiting g.got s.cut g.is.0))
+next_ends step ready (Err e) ending turns turns' a b old mid new s g after =
+    subst (λ (k : Ending). Ended step k turns' old new) (sym (some_inside ending e after.0))
+    (fault_why step ready e turns turns' a b old mid new s g after.1)
+
+pub ends_next : {T : Type 0} (step : Command → Answered T → Type 0) (ready : View → T → Type 0) (ending : Ending) (turns turns' : List Turn) (a b : Lines) (old mid new : Objects T)
+    → Standing step ready (reading a mid.left mid.input_faults) turns old mid → Nexts step (Some ending) turns turns' a b mid new → Ended step ending turns' old new
+ends_next step ready ending turns turns' a b old mid new s x = next_ends step ready x.next ending turns turns' a b old mid new s x.gives x.after
+
+-- ---- the measure
+
+measure_by : {T : Type 0} (step : Command → Answered T → Type 0) (n : Result Next Ending) (turns turns' : List Turn) (a b : Lines) (mid new : Objects T)
+    → Gives n (reading a mid.left mid.input_faults) (reading b new.left new.input_faults) → AfterNext step n None turns turns' (reread mid new) new → b.taken ≤ 2 ^ 32
+    → (2 ^ 32 - b.taken) + length (drop b.at b.piece.items) < (2 ^ 32 - a.taken) + length (drop a.at a.piece.items)
+measure_by step (Ok (next.Line line)) turns turns' a b mid new g after within =
+    let wa = drop a.at a.piece.items in
+    let wb = drop b.at b.piece.items in
+    let sizes : length wa + length g.got ≡ length line.items + length (10 ∷ wb) = sym (length-append wa g.got) ∙ (ap length g.is.0 ∙ length-append line.items (10 ∷ wb)) in
+    omega (arith, sizes, g.takes.taken)
+measure_by step (Ok (next.Last line)) turns turns' a b mid new g after within = absurd (none_some (last_ending after.0) after.2)
+measure_by step (Ok next.End) turns turns' a b mid new g after within = absurd (none_some Read after.0)
+measure_by step (Err e) turns turns' a b mid new g after within = absurd (none_some e after.0)
+
+pub measure_next : {T : Type 0} (step : Command → Answered T → Type 0) (turns turns' : List Turn) (a b : Lines) (mid new : Objects T)
+    → Nexts step None turns turns' a b mid new → b.taken ≤ 2 ^ 32
+    → (2 ^ 32 - b.taken) + length (drop b.at b.piece.items) < (2 ^ 32 - a.taken) + length (drop a.at a.piece.items)
+measure_next step turns turns' a b mid new x within = measure_by step x.next turns turns' a b mid new x.gives x.after within
+
+-- ---- more of the beginning and the end
+
+-- no room was found for a turn
+pub nexts_starved : {T : Type 0} (step : Command → Answered T → Type 0) (turns turns' : List Turn) (a : Lines) (o : Objects T) → turns' ≡ turns → Nexts step (Some Starved) turns turns' a a o o
+nexts_starved step turns turns' a o same =
+    let r = reading a o.left o.input_faults in record {
+      next = Err Starved;
+      gives = record { got = []; takes = takes_none r r refl refl; is = refl };
+      after = (refl, record { kept = same; same = refl });
+    }
+
+-- a new reader has taken nothing
+pub new_reading : (l : Lines) → l.at ≡ 0 → l.piece.items ≡ [] → l.taken ≡ 0 → IsWithin l × (drop l.at l.piece.items ≡ [])
+new_reading l place empty taken = (
+  record { place = omega (arith, place); taken = omega (arith, taken) },
+  ap (λ (n : ℕ). drop n l.piece.items) place ∙ empty,
+)

@@ -1,0 +1,89 @@
+-- The turns of a run: each is a step from where the one before ended.
+use Rattle.std.specs.Prelude.{◌≡◌, ◌≢◌, ◌⊎◌, ◌≤◌, ℕ, List, [], ◌∷◌, ◌++◌, Option}
+use Rattle.gd_lang.specs.declared.commands.Command.{Command}
+use Rattle.gd_session.specs.declared.reply.Reply.{Reply}
+use Rattle.gd_session.specs.declared.reply.Reply.TheVariants.{SinkFault}
+use Rattle.gd_vault.specs.Content.{Content}
+use Rattle.gd_script.specs.Answers.{Answered, AnswerCause, Counts, LineAnswers, Text, given_in}
+use Rattle.gd_script.specs.Lines.{Line}
+use Rattle.gd_script.specs.declared.turns.Answer.TheVariants as answer
+use Rattle.gd_script.specs.declared.turns.Faults.{Faults}
+use Rattle.gd_script.specs.declared.turns.Turn.{Turn}
+
+-- where a run stands: the interpreter, the vault's moment, the counts of faults, what was printed, and the readings that the
+-- clock gave
+pub record Now (T : Type 0) : Type 0 where
+  pub held : T
+  pub moment : ℕ
+  pub faults : Faults
+  pub out : Text
+  pub readings : List ℕ
+
+abbrev pub counts_of : Faults → Counts
+counts_of f = record { vault = f.vault; clock = f.clock; out = f.out }
+
+-- no count falls
+pub record NeverFall (f g : Faults) : Type 0 where
+  pub input : f.input ≤ g.input
+  pub out : f.out ≤ g.out
+  pub err : f.err ≤ g.err
+  pub vault : f.vault ≤ g.vault
+  pub clock : f.clock ≤ g.clock
+
+-- what a command does, an answer to it
+abbrev pub Relation : Type 0 → Type 1
+Relation T = Command → Answered T → Type 0
+
+-- the answer that a turn has, with the contents at the moments around it
+abbrev pub answered_at : {T : Type 0} → (ℕ → Content) → Turn → Now T → Now T → Reply → Text → Answered T
+answered_at was t n m reply text = record {
+  old = n.held;
+  before = was n.moment;
+  counted = counts_of n.faults;
+  reading = t.reading;
+  reply = reply;
+  text = text;
+  new = m.held;
+  after = was m.moment;
+  counts = counts_of m.faults;
+}
+
+-- one turn: from the end of the one before it, over the reading of its line, its step and its error line
+pub record Link {T : Type 0} (step : Command → Answered T → Type 0) (was : ℕ → Content) (line : Line) (t : Turn) (n m : Now T) : Type 0 where
+  pub done : m.moment ≡ t.done
+  pub counts : m.faults ≡ t.faults
+  pub later : n.moment ≤ m.moment
+  pub never_fall : NeverFall n.faults m.faults
+  pub reply : Reply
+  pub text : Text
+  pub printed : m.out ≡ n.out ++ text
+  pub reading : m.readings ≡ n.readings ++ given_in t.reading
+  pub answers : LineAnswers step line t.answer (answered_at was t n m reply text)
+
+-- a turn in which the output or standard error failed is the last one
+pub record GoesOn {T : Type 0} (n mid : Now T) (t : Turn) (ts : List Turn) : Type 0 where
+  pub answered : t.answer ≡ answer.Command SinkFault → ts ≡ []
+  pub counted : (ts ≡ []) ⊎ ((mid.faults.out ≡ n.faults.out) × (mid.faults.err ≡ n.faults.err))
+
+-- turns, one a line; lines may be left
+unfoldable pub Chain : {T : Type 0} → (Command → Answered T → Type 0) → (ℕ → Content) → List Line → List Turn → Now T → Now T → Type 0
+Chain step was lines [] n m = m ≡ n
+Chain step was [] (t ∷ ts) n m = ⊥
+Chain {T = T} step was (line ∷ lines) (t ∷ ts) n m = (mid : Now T) × Link step was line t n mid × GoesOn n mid t ts × Chain step was lines ts mid m
+
+-- neither the output nor standard error failed in a turn
+pub record IsCalm {T : Type 0} (n mid : Now T) (t : Turn) : Type 0 where
+  pub answered : t.answer ≢ answer.Command SinkFault
+  pub out : mid.faults.out ≡ n.faults.out
+  pub err : mid.faults.err ≡ n.faults.err
+
+-- a chain behind which another turn may come
+unfoldable pub CalmChain : {T : Type 0} → (Command → Answered T → Type 0) → (ℕ → Content) → List Line → List Turn → Now T → Now T → Type 0
+CalmChain step was lines [] n m = m ≡ n
+CalmChain step was [] (t ∷ ts) n m = ⊥
+CalmChain {T = T} step was (line ∷ lines) (t ∷ ts) n m = (mid : Now T) × Link step was line t n mid × IsCalm n mid t × CalmChain step was lines ts mid m
+
+-- counts never fall from turn to turn, and a fault is answered only where its object's count rose; over every vault
+unfoldable pub Counted : Faults → List Turn → Faults → Type 0
+Counted f [] g = g ≡ f
+Counted f (t ∷ ts) g = NeverFall f t.faults × AnswerCause t.answer (counts_of f) (counts_of t.faults) × Counted t.faults ts g

@@ -1,0 +1,9 @@
+pub mod Answers
+pub mod Chain
+pub mod Lines
+pub mod Reading
+pub mod Run
+pub mod Says
+pub mod Sessions
+pub mod Script
+pub mod Turns

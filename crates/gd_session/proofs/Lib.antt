@@ -1,0 +1,15 @@
+pub mod Asked
+pub mod Caused
+pub mod Changed
+pub mod Closed
+pub mod Commands
+pub mod Encoded
+pub mod Fillings
+pub mod Firsts
+pub mod Keys
+pub mod Listings
+pub mod Openings
+pub mod Reopened
+pub mod Resized
+pub mod Saying
+pub mod Spaced

@@ -1,0 +1,12 @@
+use Rattle.gd_session.proofs.Commands.{grows_asked}
+use Rattle.gd_session.proofs.Openings.{checked_causes, checked_result}
+use Rattle.gd_session.proofs.opening.open_there.Goals as goal
+
+pub returns-clause-opening : goal.returns-clause-opening
+returns-clause-opening g c = let e = c.open_file.ensures in checked_result _ _ c.args.settings.now c.args.access c.open_file.result e.asks e.opened e.there e.fits e.refused
+
+pub returns-clause-grows : goal.returns-clause-grows
+returns-clause-grows g c = grows_asked _ _ c.open_file.ensures.asks
+
+pub returns-clause-cause : goal.returns-clause-cause
+returns-clause-cause g c = checked_causes c.args.access c.open_file.result _ _ _ c.open_file.ensures.refused c.open_file.ensures.kind

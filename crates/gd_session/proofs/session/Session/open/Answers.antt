@@ -1,0 +1,50 @@
+use Rattle.std.proofs.Common.{refl}
+use Rattle.gd_vault.proofs.Within.{within_trans}
+use Rattle.gd_session.proofs.Closed.{can_close, close_done_caused, close_failed_caused, ready_shut}
+use Rattle.gd_session.proofs.Reopened.{opened_at, refused_at, reopen_caused, reopen_refused, reopen_unclosed, reopened, settings_moved, state_open, state_shut}
+use Rattle.gd_session.proofs.session.Session.open.Goals as goal
+
+pub close_phase-requires : goal.close_phase-requires
+close_phase-requires g c = can_close (g.V.Vault.view_of c.args.vault.now) _ c.args.self.now c.replace-phase.result c.self.view_is c.replace-phase.ensures.value c.requires.ready
+
+pub returns-in-Err-clause-ready : goal.returns-in-Err-clause-ready
+returns-in-Err-clause-ready g c = ready_shut (g.V.Vault.view_of c.close_phase.new.vault) c.set_name.new.file c.replace-phase.new.dest c.replace-phase.ensures.after
+
+pub returns-in-Err-clause-answer : goal.returns-in-Err-clause-answer
+returns-in-Err-clause-answer g c = λ out failed.
+    reopen_unclosed c.args.name.now _ _ c.replace-phase.result c.in-Err.error (state_shut _ c.args.self.now c.args.name.now c.set_name.new.file c.replace-phase.new.dest c.self.view_is c.set_name.ensures c.replace-phase.ensures.after) refl c.in-Err.ensures.closing
+
+pub returns-in-Err-clause-cause : goal.returns-in-Err-clause-cause
+returns-in-Err-clause-cause g c = λ out failed. close_failed_caused c.replace-phase.result _ _ c.in-Err.error c.in-Err.ensures.closing
+
+pub returns-in-Err-open_named-clause-ready : goal.returns-in-Err-open_named-clause-ready
+returns-in-Err-open_named-clause-ready g c = ready_shut (g.V.Vault.view_of c.open_named.new.vault) c.set_name.new.file c.replace-phase.new.dest c.replace-phase.ensures.after
+
+pub returns-in-Err-open_named-clause-grows : goal.returns-in-Err-open_named-clause-grows
+returns-in-Err-open_named-clause-grows g c = within_trans c.close_phase.ensures.grows c.open_named.ensures.grows
+
+pub returns-in-Err-open_named-clause-answer : goal.returns-in-Err-open_named-clause-answer
+returns-in-Err-open_named-clause-answer g c = λ out failed.
+    let moved = settings_moved _ c.args.self.now c.args.name.now c.set_name.new.file c.self.view_is c.set_name.ensures in
+    reopen_refused c.args.name.now _ _ c.in-Err-open_named.error (g.V.Vault.view_of c.close_phase.new.vault) c.in_default.ensures.closing c.close_phase.ensures.grows.faults
+    (state_shut _ c.args.self.now c.args.name.now c.set_name.new.file c.replace-phase.new.dest c.self.view_is c.set_name.ensures c.replace-phase.ensures.after) refl
+    (refused_at _ _ c.in-Err-open_named.error _ _ moved c.in-Err-open_named.ensures.opening)
+
+pub returns-in-Err-open_named-clause-cause : goal.returns-in-Err-open_named-clause-cause
+returns-in-Err-open_named-clause-cause g c = λ out failed. reopen_caused _ _ (g.V.Vault.view_of c.close_phase.new.vault) c.in-Err-open_named.error c.close_phase.ensures.grows.faults c.in-Err-open_named.ensures.cause
+
+pub returns-in-Ok-clause-ready : goal.returns-in-Ok-clause-ready
+returns-in-Ok-clause-ready g c = c.in-Ok.ensures.opening.is_open
+
+pub returns-in-Ok-clause-grows : goal.returns-in-Ok-clause-grows
+returns-in-Ok-clause-grows g c = within_trans c.close_phase.ensures.grows c.open_named.ensures.grows
+
+pub returns-in-Ok-clause-answer : goal.returns-in-Ok-clause-answer
+returns-in-Ok-clause-answer g c = λ out failed.
+    let moved = settings_moved _ c.args.self.now c.args.name.now c.set_name.new.file c.self.view_is c.set_name.ensures in
+    reopened c.args.name.now _ _ c.in-Ok.store (g.V.Vault.view_of c.close_phase.new.vault) c.in_default.ensures.closing
+    (state_open _ c.args.self.now c.args.name.now c.set_name.new.file c.in-Ok.store c.self.view_is c.set_name.ensures) refl
+    (opened_at _ _ c.in-Ok.store _ _ moved c.in-Ok.ensures.opening)
+
+pub returns-in-Ok-clause-cause : goal.returns-in-Ok-clause-cause
+returns-in-Ok-clause-cause g c = λ out failed. close_done_caused _ _

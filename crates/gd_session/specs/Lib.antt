@@ -1,0 +1,17 @@
+pub mod Answers
+pub mod Calls
+pub mod Closing
+pub mod Due
+pub mod Filling
+pub mod Held
+pub mod Listing
+pub mod Openings
+pub mod Opens
+pub mod Proper
+pub mod Requests
+pub mod Rows
+pub mod Said
+pub mod Showing
+pub mod State
+pub mod Step
+pub mod Texts

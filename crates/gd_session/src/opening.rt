@@ -1,0 +1,89 @@
+//! Opening a database by its name.
+
+ghost use Rattle.std.specs.Prelude.{◌≡◌, ◌≤◌, IfErr};
+ghost use Rattle.gd_vault.specs.Frame.{Within};
+ghost use Rattle.gd_session.specs.Calls.{AnyFile, AnyName};
+ghost use Rattle.gd_session.specs.Openings.{IsOpening, IsOpeningCause, OpensByName, SpoilsByName};
+ghost use Rattle.gd_session.specs.Opens.{Checks, Makes, Opens, Spoiled, Spoils, Unspoiled};
+
+use crate::settings::Settings;
+use gd_base::DbError;
+use gd_lang::Opening;
+use gd_store::{Access, Store};
+use gd_vault::Vault;
+use std::alloc::Global;
+
+// Opens a file that is there.
+fn open_there<V: Vault>(
+    alloc: Global,
+    settings: &Settings,
+    access: Access,
+    vault: &mut V,
+) -> Result<Store, DbError>
+    requires least { 1 ≤ settings.now.cache }
+    requires most { settings.now.cache ≤ 4096 }
+    ensures opening { IsOpening (Checks settings.now access) Unspoiled settings.now.file result (V.view_of vault.old) (V.view_of vault.new) }
+    ensures grows { Within AnyFile AnyName (V.view_of vault.old) (V.view_of vault.new) }
+    ensures cause { IfErr result (λ e. IsOpeningCause e (V.view_of vault.old).faults (V.view_of vault.new).faults) }
+{
+    Store::open_file(alloc, vault, &settings.file, access, settings.cache)
+}
+
+// Makes or empties a file.
+fn make<V: Vault>(alloc: Global, settings: &Settings, vault: &mut V) -> Result<Store, DbError>
+    requires block { settings.now.block ≤ 1048576 }
+    requires least { 1 ≤ settings.now.cache }
+    requires most { settings.now.cache ≤ 4096 }
+    ensures opening { IsOpening (Makes settings.now) (Spoiled settings.now) settings.now.file result (V.view_of vault.old) (V.view_of vault.new) }
+    ensures grows { Within AnyFile AnyName (V.view_of vault.old) (V.view_of vault.new) }
+    ensures cause { IfErr result (λ e. IsOpeningCause e (V.view_of vault.old).faults (V.view_of vault.new).faults) }
+{
+    Store::create(
+        alloc,
+        vault,
+        &settings.file,
+        settings.block,
+        settings.format,
+        settings.cache,
+    )
+}
+
+// Opens the file where it is there, and else makes it.
+fn open_or_make<V: Vault>(
+    alloc: Global,
+    settings: &Settings,
+    vault: &mut V,
+) -> Result<Store, DbError>
+    requires block { settings.now.block ≤ 1048576 }
+    requires least { 1 ≤ settings.now.cache }
+    requires most { settings.now.cache ≤ 4096 }
+    ensures opening { IsOpening (OpensByName settings.now) (SpoilsByName settings.now) settings.now.file result (V.view_of vault.old) (V.view_of vault.new) }
+    ensures grows { Within AnyFile AnyName (V.view_of vault.old) (V.view_of vault.new) }
+    ensures cause { IfErr result (λ e. IsOpeningCause e (V.view_of vault.old).faults (V.view_of vault.new).faults) }
+{
+    match vault.lookup(&settings.file) {
+        Ok(Some(_)) => open_there(alloc, settings, Access::Writer, vault),
+        Ok(None) => make(alloc, settings, vault),
+        Err(_) => Err(DbError::VaultFault),
+    }
+}
+
+/// Opens the database of the name last used, as the variable `open` says.
+pub(crate) fn open_named<V: Vault>(
+    alloc: Global,
+    settings: &Settings,
+    vault: &mut V,
+) -> Result<Store, DbError>
+    requires block { settings.now.block ≤ 1048576 }
+    requires least { 1 ≤ settings.now.cache }
+    requires most { settings.now.cache ≤ 4096 }
+    ensures opening { IsOpening (Opens settings.now) (Spoils settings.now) settings.now.file result (V.view_of vault.old) (V.view_of vault.new) }
+    ensures grows { Within AnyFile AnyName (V.view_of vault.old) (V.view_of vault.new) }
+    ensures cause { IfErr result (λ e. IsOpeningCause e (V.view_of vault.old).faults (V.view_of vault.new).faults) }
+{
+    match settings.opening {
+        Opening::NewDb => make(alloc, settings, vault),
+        Opening::WrCreat => open_or_make(alloc, settings, vault),
+        Opening::Reader => open_there(alloc, settings, Access::Reader, vault),
+    }
+}
