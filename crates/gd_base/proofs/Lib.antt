@@ -1,3 +1,3 @@
-pub mod Inputs
+mod Inputs
 pub mod Waits
 pub mod Writes

@@ -1,8 +1,8 @@
-pub mod Around
-pub mod Finds
-pub mod Inserts
-pub mod Removes
+mod Around
+mod Finds
+mod Inserts
+mod Removes
 pub mod Falls
 pub mod Holes
-pub mod Parts
+mod Parts
 pub mod Maps

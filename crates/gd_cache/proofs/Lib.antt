@@ -1,3 +1,3 @@
-pub mod Files
-pub mod Helds
-pub mod Uses
+mod Files
+mod Helds
+mod Uses

@@ -1,7 +1,7 @@
-pub mod Begins
+mod Begins
 pub mod Powers
-pub mod Numbers
-pub mod Headers
-pub mod TwoBlocks
+mod Numbers
+mod Headers
+mod TwoBlocks
 pub mod News
-pub mod Writes
+mod Writes

@@ -1,21 +1,21 @@
-pub mod AsciiEnds
-pub mod AsciiWaits
-pub mod BinaryEnds
+mod AsciiEnds
+mod AsciiWaits
+mod BinaryEnds
 pub mod BinaryPairs
-pub mod BinaryReading
-pub mod Contains
+mod BinaryReading
+mod Contains
 pub mod DataLines
-pub mod DatumParts
+mod DatumParts
 pub mod Datums
-pub mod Digits
+mod Digits
 pub mod Encodes
-pub mod Feeding
-pub mod Fronts
-pub mod ItemEnds
+mod Feeding
+mod Fronts
+mod ItemEnds
 pub mod LineCuts
-pub mod LineParts
-pub mod LineShown
-pub mod ParamCuts
-pub mod Quoted
-pub mod TextLines
-pub mod TextParts
+mod LineParts
+mod LineShown
+mod ParamCuts
+mod Quoted
+mod TextLines
+mod TextParts

@@ -1,1 +1,1 @@
-pub mod Asked
+mod Asked

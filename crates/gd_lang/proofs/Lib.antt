@@ -1,6 +1,6 @@
-pub mod Bracing
-pub mod Digits
-pub mod Naming
-pub mod Refusing
-pub mod Steps
-pub mod Limits
+mod Bracing
+mod Digits
+mod Naming
+mod Refusing
+mod Steps
+mod Limits

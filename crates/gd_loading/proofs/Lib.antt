@@ -1,2 +1,2 @@
-pub mod Rounds
-pub mod Steps
+mod Rounds
+mod Steps

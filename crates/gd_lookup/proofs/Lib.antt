@@ -1,7 +1,7 @@
-pub mod Opens
-pub mod Owns
-pub mod Runs
-pub mod Counts
-pub mod Orders
+mod Opens
+mod Owns
+mod Runs
+mod Counts
+mod Orders
 pub mod Keys
-pub mod Blocks
+mod Blocks

@@ -10,7 +10,7 @@ pub mod Put
 pub mod Change
 pub mod Find
 pub mod SplitSpace
-pub mod Aside
+mod Aside
 pub mod Maps
 pub mod Side
 pub mod Sized
@@ -22,7 +22,7 @@ pub mod Writes
 pub mod NewFile
 pub mod Beside
 pub mod SplitWrites
-pub mod SplitSums
+mod SplitSums
 pub mod Fronts
 pub mod DoubleSpace
 pub mod Split

@@ -1,10 +1,10 @@
-pub mod Calls
-pub mod Candidates
-pub mod Disks
-pub mod Idles
-pub mod Logs
-pub mod Names
-pub mod Ranges
-pub mod Running
-pub mod Sounds
-pub mod Pasts
+mod Calls
+mod Candidates
+mod Disks
+mod Idles
+mod Logs
+mod Names
+mod Ranges
+mod Running
+mod Sounds
+mod Pasts

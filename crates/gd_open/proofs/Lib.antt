@@ -1,4 +1,4 @@
 pub mod Opens
 pub mod Blocks
 pub mod Files
-pub mod Fits
+mod Fits

@@ -1,15 +1,15 @@
-pub mod Ahead
+mod Ahead
 pub mod Asks
-pub mod Entries
-pub mod Fronts
+mod Entries
+mod Fronts
 pub mod Headers
 pub mod Refusals
-pub mod Left
-pub mod Nexts
+mod Left
+mod Nexts
 pub mod Passing
 pub mod Places
-pub mod Reach
+mod Reach
 pub mod Runs
-pub mod Seen
-pub mod Steps
+mod Seen
+mod Steps
 pub mod Walks

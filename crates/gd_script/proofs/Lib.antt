@@ -1,8 +1,8 @@
-pub mod Cutting
-pub mod Chains
-pub mod Closing
-pub mod Lining
-pub mod Pieces
-pub mod Turning
-pub mod Running
-pub mod Stepping
+mod Cutting
+mod Chains
+mod Closing
+mod Lining
+mod Pieces
+mod Turning
+mod Running
+mod Stepping

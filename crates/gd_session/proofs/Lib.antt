@@ -1,15 +1,15 @@
-pub mod Asked
-pub mod Caused
-pub mod Changed
-pub mod Closed
-pub mod Commands
-pub mod Encoded
-pub mod Fillings
-pub mod Firsts
-pub mod Keys
-pub mod Listings
-pub mod Openings
-pub mod Reopened
-pub mod Resized
-pub mod Saying
-pub mod Spaced
+mod Asked
+mod Caused
+mod Changed
+mod Closed
+mod Commands
+mod Encoded
+mod Fillings
+mod Firsts
+mod Keys
+mod Listings
+mod Openings
+mod Reopened
+mod Resized
+mod Saying
+mod Spaced

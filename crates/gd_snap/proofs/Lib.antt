@@ -1,2 +1,2 @@
-pub mod Chosen
-pub mod Fields
+mod Chosen
+mod Fields

@@ -1,16 +1,16 @@
 pub mod Elements
-pub mod Cuts
+mod Cuts
 pub mod Changes
 pub mod Tooks
-pub mod Writes
+mod Writes
 pub mod Stacks
 pub mod Sides
-pub mod Pushes
+mod Pushes
 pub mod Dones
-pub mod BlockReads
+mod BlockReads
 pub mod Fits
-pub mod Tables
-pub mod Trials
-pub mod Gives
-pub mod Fills
-pub mod Pushing
+mod Tables
+mod Trials
+mod Gives
+mod Fills
+mod Pushing

@@ -1,6 +1,6 @@
-pub mod Lost
-pub mod Meets
-pub mod Spelled
-pub mod Patches
-pub mod Kept
-pub mod Views
+mod Lost
+mod Meets
+mod Spelled
+mod Patches
+mod Kept
+mod Views

@@ -1,2 +1,2 @@
-pub mod Trials
-pub mod Starts
+mod Trials
+mod Starts

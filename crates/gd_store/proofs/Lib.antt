@@ -1,11 +1,11 @@
 pub mod Asking
-pub mod Changing
-pub mod Clearing
-pub mod Frames
-pub mod Growth
-pub mod Lookups
-pub mod Marks
-pub mod News
-pub mod OpenFacts
+mod Changing
+mod Clearing
+mod Frames
+mod Growth
+mod Lookups
+mod Marks
+mod News
+mod OpenFacts
 pub mod Pairs
-pub mod Rooms
+mod Rooms

@@ -1,5 +1,5 @@
-pub mod Ends
-pub mod Files
-pub mod Pairs
-pub mod Refusals
-pub mod Scripts
+mod Ends
+mod Files
+mod Pairs
+mod Refusals
+mod Scripts

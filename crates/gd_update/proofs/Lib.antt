@@ -1,25 +1,25 @@
 pub mod Files
-pub mod Puts
-pub mod Places
-pub mod Records
-pub mod Backs
-pub mod Sizes
-pub mod Bases
-pub mod Whole
-pub mod Results
+mod Puts
+mod Places
+mod Records
+mod Backs
+mod Sizes
+mod Bases
+mod Whole
+mod Results
 pub mod Gone
-pub mod Pools
-pub mod SplitParts
-pub mod DoubleParts
-pub mod Parts
-pub mod Takes
-pub mod Numbers
-pub mod Entries
+mod Pools
+mod SplitParts
+mod DoubleParts
+mod Parts
+mod Takes
+mod Numbers
+mod Entries
 pub mod Chains
-pub mod Ends
-pub mod Settled
-pub mod Growth
-pub mod StepChains
-pub mod NextBits
+mod Ends
+mod Settled
+mod Growth
+mod StepChains
+mod NextBits
 pub mod Heads
-pub mod Ways
+mod Ways

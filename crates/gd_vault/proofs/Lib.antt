@@ -1,15 +1,15 @@
-pub mod AfterLeft
+mod AfterLeft
 pub mod Content
 pub mod Files
 pub mod FrameLeft
 pub mod Lawful
 pub mod Left
-pub mod Taken
-pub mod Stands
-pub mod Told
+mod Taken
+mod Stands
+mod Told
 pub mod Torn
 pub mod WasLeft
 pub mod Within
-pub mod Since
+mod Since
 pub mod OneFile
 pub mod Writes

@@ -1,13 +1,13 @@
-pub mod Lists
-pub mod Chains
-pub mod Covers
-pub mod Meets
-pub mod Fewer
-pub mod Numbers
-pub mod Stacks
-pub mod Placing
-pub mod Bucketing
-pub mod Tables
-pub mod Orders
-pub mod OfFile
-pub mod Whole
+mod Lists
+mod Chains
+mod Covers
+mod Meets
+mod Fewer
+mod Numbers
+mod Stacks
+mod Placing
+mod Bucketing
+mod Tables
+mod Orders
+mod OfFile
+mod Whole

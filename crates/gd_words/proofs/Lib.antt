@@ -1,2 +1,2 @@
-pub mod Digits
-pub mod Facts
+mod Digits
+mod Facts
