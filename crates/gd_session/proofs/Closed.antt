@@ -17,7 +17,7 @@ use Rattle.gd_vault.proofs.Content.{content_step}
 use Rattle.gd_vault.proofs.OneFile.{same_content}
 use Rattle.gd_session.specs.Answers.{Answer}
 use Rattle.gd_session.specs.Calls.{Answers, IsPhaseReady, IsReady, Scene, answer_in}
-use Rattle.gd_session.specs.Closing.{CanClose, IsClosing, SameContent, SyncsOpen}
+use Rattle.gd_session.specs.Closing.{CanClose, ClosesIn, IsClosing, SameContent, SyncsAs, SyncsOpen}
 use Rattle.gd_session.specs.Due.{Causes, moving}
 use Rattle.gd_store.specs.Replies.{is_fault_of}
 use Rattle.gd_session.proofs.Caused.{caused_done, caused_error}
@@ -26,6 +26,7 @@ use Rattle.gd_session.specs.State.{Held, Phase, Text, db_of, phase_of, seen, shu
 use Rattle.gd_session.specs.State.Phase.{Open}
 use Rattle.gd_session.specs.declared.phase.Phase as real
 use Rattle.gd_session.specs.declared.phase.Phase.TheVariants as phases
+use Rattle.gd_lang.specs.declared.commands.Command.{Command}
 use Rattle.gd_session.specs.declared.reply.Reply.{Reply}
 use Rattle.gd_session.specs.declared.reply.Reply.TheVariants.{Done, Refused}
 use Rattle.gd_session.proofs.Changed.{access_cases}
@@ -111,3 +112,14 @@ close_failed_caused p old new e h = caused_error moving is_fault_of old new e re
 
 pub synced_at : (p q : real.Phase) (r : Result (Unit {0}) DbError) (u v : View) → p ≡ q → SyncsOpen p r u v → SyncsOpen q r u v
 synced_at p q r u v is h = subst (λ (x : real.Phase). SyncsOpen x r u v) is h
+
+-- what a store says of its closing, by how it was opened
+pub syncs_as : (broken : Bool) (access : Access) (f : ℕ) (r : Result (Unit {0}) DbError) (u v : View) → (broken ≡ false → access ≡ Writer → Changed (Sync f) r u v) → (access ≡ Reader → (r ≡ Ok tt) × (v ≡ u)) → (broken ≡ true → (r ≡ Ok tt) × (v ≡ u))
+    → SyncsAs broken access f r u v
+syncs_as false Writer f r u v sync reader broken = sync refl refl
+syncs_as false Reader f r u v sync reader broken = reader refl
+syncs_as true Writer f r u v sync reader broken = broken refl
+syncs_as true Reader f r u v sync reader broken = broken refl
+
+pub closes_as : (command given : Command) (p : real.Phase) (r : Reply) (u v : View) → command ≡ given → ClosesIn given p r u v → ClosesIn command p r u v
+closes_as command given p r u v is h = subst (λ (k : Command). ClosesIn k p r u v) (sym is) h

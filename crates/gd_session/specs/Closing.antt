@@ -1,14 +1,19 @@
 -- What closing a database owes.
-use Rattle.std.specs.Prelude.{◌≡◌, false, Some, Result, Ok, Err, is_ok}
+use Rattle.std.specs.Prelude.{◌≡◌, ℕ, Bool, false, Some, Result, Ok, Err}
 use Rattle.gd_base.specs.Causes.{Rose}
 use Rattle.gd_base.specs.declared.errors.DbError.{DbError}
 use Rattle.gd_base.specs.declared.errors.DbError.TheVariants.{VaultFault}
+use Rattle.gd_lang.specs.declared.commands.Command.{Command}
+use Rattle.gd_lang.specs.declared.commands.Command.TheVariants as commands
 use Rattle.gd_store.specs.Opened.{Opened}
+use Rattle.gd_store.specs.declared.access.Access.{Access}
 use Rattle.gd_store.specs.declared.access.Access.TheVariants.{Writer}
 use Rattle.gd_vault.specs.Changes.{Changed}
 use Rattle.gd_vault.specs.Content.{Content}
 use Rattle.gd_vault.specs.Events.Call.{Sync}
+use Rattle.gd_vault.specs.Frame.{Within}
 use Rattle.gd_vault.specs.Views.{View, HasFile, content_of}
+use Rattle.gd_session.specs.Calls.{AnyFile, AnyName}
 use Rattle.gd_session.specs.Rows.{Syncs}
 use Rattle.gd_session.specs.State.{phase_of}
 use Rattle.gd_session.specs.declared.phase.Phase as real
@@ -29,17 +34,40 @@ abbrev pub IsClosing : real.Phase → Result (Unit {0}) DbError → View → Vie
 IsClosing p (Ok x) u v = SameContent u v
 IsClosing p (Err e) u v = SameContent u v × (e ≡ VaultFault) × Rose u.faults v.faults × Syncs (phase_of p)
 
--- a database that is open to write and not broken is made durable, by one call
-abbrev pub SyncsStore : Opened → Result (Unit {0}) DbError → View → View → Type 0
-SyncsStore store r u v = store.broken ≡ false → store.access ≡ Writer → Changed (Sync store.file) r u v
+-- one that is open to write and not broken is made durable, by one call, and its failure is the refusal; any other is left alone
+abbrev pub SyncsAs : (broken : Bool) → Access → ℕ → Result (Unit {0}) DbError → View → View → Type 0
+SyncsAs false Writer f r u v = Changed (Sync f) r u v
+SyncsAs broken access f r u v = (r ≡ Ok tt) × (v ≡ u)
 
+abbrev pub SyncsStore : Opened → Result (Unit {0}) DbError → View → View → Type 0
+SyncsStore store r u v = SyncsAs store.broken store.access store.file r u v
+
+-- the database that is open is closed; where none is, nothing happens
 abbrev pub SyncsOpen : real.Phase → Result (Unit {0}) DbError → View → View → Type 0
-SyncsOpen phases.Fresh r u v = v ≡ u
+SyncsOpen phases.Fresh r u v = (r ≡ Ok tt) × (v ≡ u)
 SyncsOpen (phases.Open store) r u v = SyncsStore store r u v
-SyncsOpen phases.Shut r u v = v ≡ u
+SyncsOpen phases.Shut r u v = (r ≡ Ok tt) × (v ≡ u)
 
 -- the same by the reply
 abbrev pub ClosesSynced : real.Phase → Reply → View → View → Type 0
 ClosesSynced p Done u v = SyncsOpen p (Ok tt) u v
-ClosesSynced p (Refused e) u v = SyncsOpen p (Err e) u v
+ClosesSynced p (Refused e) u v = (e ≡ VaultFault) × SyncsOpen p (Err e) u v
 ClosesSynced p reply u v = ⊥
+
+-- after the closing: what comes behind it, but nothing where it failed
+abbrev pub Behind : Result (Unit {0}) DbError → Reply → View → View → Type 0
+Behind (Ok x) reply mid v = Within AnyFile AnyName mid v
+Behind (Err e) reply mid v = (e ≡ VaultFault) × (reply ≡ Refused e) × (v ≡ mid)
+
+-- the database that is open is closed before another one is opened
+pub record ClosesFirst (p : real.Phase) (reply : Reply) (u v : View) : Type 0 where
+  pub mid : View
+  pub result : Result (Unit {0}) DbError
+  pub closes : SyncsOpen p result u mid
+  pub behind : Behind result reply mid v
+
+-- what a command does to the database that was open, where it closes it
+abbrev pub ClosesIn : Command → real.Phase → Reply → View → View → Type 0
+ClosesIn commands.Close p reply u v = ClosesSynced p reply u v
+ClosesIn (commands.Open name) p reply u v = ClosesFirst p reply u v
+ClosesIn command p reply u v = Unit {0}

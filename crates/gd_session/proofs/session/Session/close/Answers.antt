@@ -31,7 +31,7 @@ returns-clause-synced g c =
     let same = c.replace-phase.ensures.value ∙ ap (λ (h : Held). h.phase) c.self.view_is in
     elim c.match-close_phase.branch [
       | in-Ok w ↦ rw w.result-is (synced_at c.replace-phase.result c.args.self.now.phase _ _ _ same w.in-Ok.ensures.synced)
-      | in-Err w ↦ rw w.result-is (synced_at c.replace-phase.result c.args.self.now.phase _ _ _ same w.in-Err.ensures.synced)
+      | in-Err w ↦ rw w.result-is (w.in-Err.ensures.closing.1, synced_at c.replace-phase.result c.args.self.now.phase _ _ _ same w.in-Err.ensures.synced)
     ]
 
 pub returns-clause-fault : goal.returns-clause-fault

@@ -1,6 +1,7 @@
-use Rattle.std.proofs.Common.{refl}
+use Rattle.std.proofs.Common.{Ok, Err, refl, ap, ◌∙◌}
 use Rattle.gd_vault.proofs.Within.{within_trans}
-use Rattle.gd_session.proofs.Closed.{can_close, close_done_caused, close_failed_caused, ready_shut}
+use Rattle.gd_session.proofs.Closed.{can_close, close_done_caused, close_failed_caused, ready_shut, synced_at}
+use Rattle.gd_session.specs.State.{Held}
 use Rattle.gd_session.proofs.Reopened.{opened_at, refused_at, reopen_caused, reopen_refused, reopen_unclosed, reopened, settings_moved, state_open, state_shut}
 use Rattle.gd_session.proofs.session.Session.open.Goals as goal
 
@@ -48,3 +49,33 @@ returns-in-Ok-clause-answer g c = λ out failed.
 
 pub returns-in-Ok-clause-cause : goal.returns-in-Ok-clause-cause
 returns-in-Ok-clause-cause g c = λ out failed. close_done_caused _ _
+
+pub returns-in-Err-clause-closes : goal.returns-in-Err-clause-closes
+returns-in-Err-clause-closes g c =
+    let same = c.replace-phase.ensures.value ∙ ap (λ (h : Held). h.phase) c.self.view_is in
+    record {
+      mid = g.V.Vault.view_of c.close_phase.new.vault;
+      result = Err c.in-Err.error;
+      closes = synced_at c.replace-phase.result c.args.self.now.phase _ _ _ same c.in-Err.ensures.synced;
+      behind = (c.in-Err.ensures.closing.1, refl, refl);
+    }
+
+pub returns-in-Err-open_named-clause-closes : goal.returns-in-Err-open_named-clause-closes
+returns-in-Err-open_named-clause-closes g c =
+    let same = c.replace-phase.ensures.value ∙ ap (λ (h : Held). h.phase) c.self.view_is in
+    record {
+      mid = g.V.Vault.view_of c.close_phase.new.vault;
+      result = Ok tt;
+      closes = synced_at c.replace-phase.result c.args.self.now.phase _ _ _ same c.in_default.ensures.synced;
+      behind = c.open_named.ensures.grows;
+    }
+
+pub returns-in-Ok-clause-closes : goal.returns-in-Ok-clause-closes
+returns-in-Ok-clause-closes g c =
+    let same = c.replace-phase.ensures.value ∙ ap (λ (h : Held). h.phase) c.self.view_is in
+    record {
+      mid = g.V.Vault.view_of c.close_phase.new.vault;
+      result = Ok tt;
+      closes = synced_at c.replace-phase.result c.args.self.now.phase _ _ _ same c.in_default.ensures.synced;
+      behind = c.open_named.ensures.grows;
+    }

@@ -2,6 +2,7 @@ use Rattle.std.proofs.Common.{Some, None, refl, ap, ◌∙◌}
 use Rattle.gd_lang.specs.declared.commands.Command.TheVariants as commands
 use Rattle.gd_session.specs.Due.{silent}
 use Rattle.gd_session.proofs.Caused.{caused_done}
+use Rattle.gd_session.proofs.Closed.{closes_as}
 use Rattle.gd_session.proofs.Encoded.{answered_as, caused_as, caused_quit, stays_as, version_answer, version_caused}
 use Rattle.gd_session.proofs.session.Session.step.Goals as goal
 
@@ -11,11 +12,17 @@ returns-in-Nothing-clause-answer g c = stays_as c.args.command.now commands.Noth
 pub returns-in-Nothing-clause-cause : goal.returns-in-Nothing-clause-cause
 returns-in-Nothing-clause-cause g c = caused_as c.args.command.now commands.Nothing _ _ _ c.in-Nothing.is (caused_done silent _ _ refl)
 
+pub returns-in-Nothing-clause-closes : goal.returns-in-Nothing-clause-closes
+returns-in-Nothing-clause-closes g c = closes_as c.args.command.now _ _ _ _ _ c.in-Nothing.is tt
+
 pub returns-in-Quit-clause-answer : goal.returns-in-Quit-clause-answer
 returns-in-Quit-clause-answer g c = stays_as c.args.command.now commands.Quit _ _ _ c.in-Quit.is (λ a h. h)
 
 pub returns-in-Quit-clause-cause : goal.returns-in-Quit-clause-cause
 returns-in-Quit-clause-cause g c = caused_as c.args.command.now commands.Quit _ _ _ c.in-Quit.is (caused_quit _)
+
+pub returns-in-Quit-clause-closes : goal.returns-in-Quit-clause-closes
+returns-in-Quit-clause-closes g c = closes_as c.args.command.now _ _ _ _ _ c.in-Quit.is tt
 
 pub returns-in-Version-clause-answer : goal.returns-in-Version-clause-answer
 returns-in-Version-clause-answer g c = answered_as c.args.command.now commands.Version _ _ _ c.say_text.result c.in-Version.is (version_answer _ _ c.say_text.result refl refl c.say_text.ensures.said)
@@ -23,11 +30,17 @@ returns-in-Version-clause-answer g c = answered_as c.args.command.now commands.V
 pub returns-in-Version-clause-cause : goal.returns-in-Version-clause-cause
 returns-in-Version-clause-cause g c = caused_as c.args.command.now commands.Version _ _ c.say_text.result c.in-Version.is (version_caused _ _ c.say_text.result c.say_text.ensures.said)
 
+pub returns-in-Version-clause-closes : goal.returns-in-Version-clause-closes
+returns-in-Version-clause-closes g c = closes_as c.args.command.now _ _ _ _ _ c.in-Version.is tt
+
 pub returns-in-Open-clause-answer : goal.returns-in-Open-clause-answer
 returns-in-Open-clause-answer g c = answered_as c.args.command.now _ _ _ _ _ c.in-Open.is (c.open.ensures.answer _ _)
 
 pub returns-in-Open-clause-cause : goal.returns-in-Open-clause-cause
 returns-in-Open-clause-cause g c = caused_as c.args.command.now _ _ _ _ c.in-Open.is (c.open.ensures.cause _ _)
+
+pub returns-in-Open-clause-closes : goal.returns-in-Open-clause-closes
+returns-in-Open-clause-closes g c = closes_as c.args.command.now _ _ _ _ _ c.in-Open.is c.open.ensures.closes
 
 pub returns-in-Close-clause-answer : goal.returns-in-Close-clause-answer
 returns-in-Close-clause-answer g c = answered_as c.args.command.now _ _ _ _ _ c.in-Close.is (c.close.ensures.answer _ _)
@@ -35,11 +48,17 @@ returns-in-Close-clause-answer g c = answered_as c.args.command.now _ _ _ _ _ c.
 pub returns-in-Close-clause-cause : goal.returns-in-Close-clause-cause
 returns-in-Close-clause-cause g c = caused_as c.args.command.now _ _ _ _ c.in-Close.is (c.close.ensures.cause _ _)
 
+pub returns-in-Close-clause-closes : goal.returns-in-Close-clause-closes
+returns-in-Close-clause-closes g c = closes_as c.args.command.now _ _ _ _ _ c.in-Close.is c.close.ensures.synced
+
 pub returns-in-Set-clause-answer : goal.returns-in-Set-clause-answer
 returns-in-Set-clause-answer g c = answered_as c.args.command.now _ _ _ _ _ c.in-Set.is c.set.ensures.answer
 
 pub returns-in-Set-clause-cause : goal.returns-in-Set-clause-cause
 returns-in-Set-clause-cause g c = caused_as c.args.command.now _ _ _ _ c.in-Set.is c.set.ensures.cause
+
+pub returns-in-Set-clause-closes : goal.returns-in-Set-clause-closes
+returns-in-Set-clause-closes g c = closes_as c.args.command.now _ _ _ _ _ c.in-Set.is tt
 
 pub returns-in-Count-clause-answer : goal.returns-in-Count-clause-answer
 returns-in-Count-clause-answer g c = answered_as c.args.command.now _ _ _ _ _ c.in-Count.is c.answer.ensures.answer
@@ -47,11 +66,17 @@ returns-in-Count-clause-answer g c = answered_as c.args.command.now _ _ _ _ _ c.
 pub returns-in-Count-clause-cause : goal.returns-in-Count-clause-cause
 returns-in-Count-clause-cause g c = caused_as c.args.command.now _ _ _ _ c.in-Count.is c.answer.ensures.cause
 
+pub returns-in-Count-clause-closes : goal.returns-in-Count-clause-closes
+returns-in-Count-clause-closes g c = closes_as c.args.command.now _ _ _ _ _ c.in-Count.is tt
+
 pub returns-in-Fetch-clause-answer : goal.returns-in-Fetch-clause-answer
 returns-in-Fetch-clause-answer g c = answered_as c.args.command.now _ _ _ _ _ c.in-Fetch.is c.answer_key.ensures.answer
 
 pub returns-in-Fetch-clause-cause : goal.returns-in-Fetch-clause-cause
 returns-in-Fetch-clause-cause g c = caused_as c.args.command.now _ _ _ _ c.in-Fetch.is c.answer_key.ensures.cause
+
+pub returns-in-Fetch-clause-closes : goal.returns-in-Fetch-clause-closes
+returns-in-Fetch-clause-closes g c = closes_as c.args.command.now _ _ _ _ _ c.in-Fetch.is tt
 
 pub returns-in-First-clause-answer : goal.returns-in-First-clause-answer
 returns-in-First-clause-answer g c = answered_as c.args.command.now _ _ _ _ _ c.in-First.is c.answer-in-First.ensures.answer
@@ -59,11 +84,17 @@ returns-in-First-clause-answer g c = answered_as c.args.command.now _ _ _ _ _ c.
 pub returns-in-First-clause-cause : goal.returns-in-First-clause-cause
 returns-in-First-clause-cause g c = caused_as c.args.command.now _ _ _ _ c.in-First.is c.answer-in-First.ensures.cause
 
+pub returns-in-First-clause-closes : goal.returns-in-First-clause-closes
+returns-in-First-clause-closes g c = closes_as c.args.command.now _ _ _ _ _ c.in-First.is tt
+
 pub returns-in-None-clause-answer : goal.returns-in-None-clause-answer
 returns-in-None-clause-answer g c = answered_as c.args.command.now (commands.Next None) _ _ _ _ (c.in-Next.is ∙ ap commands.Next c.in-None.is) c.answer-in-None.ensures.answer
 
 pub returns-in-None-clause-cause : goal.returns-in-None-clause-cause
 returns-in-None-clause-cause g c = caused_as c.args.command.now (commands.Next None) _ _ _ (c.in-Next.is ∙ ap commands.Next c.in-None.is) c.answer-in-None.ensures.cause
+
+pub returns-in-None-clause-closes : goal.returns-in-None-clause-closes
+returns-in-None-clause-closes g c = closes_as c.args.command.now (commands.Next None) _ _ _ _ (c.in-Next.is ∙ ap commands.Next c.in-None.is) tt
 
 pub returns-in-Some-clause-answer : goal.returns-in-Some-clause-answer
 returns-in-Some-clause-answer g c = answered_as c.args.command.now (commands.Next (Some c.in-Some.words)) _ _ _ _ (c.in-Next.is ∙ ap commands.Next c.in-Some.is) c.answer_key-in-Some.ensures.answer
@@ -71,11 +102,17 @@ returns-in-Some-clause-answer g c = answered_as c.args.command.now (commands.Nex
 pub returns-in-Some-clause-cause : goal.returns-in-Some-clause-cause
 returns-in-Some-clause-cause g c = caused_as c.args.command.now (commands.Next (Some c.in-Some.words)) _ _ _ (c.in-Next.is ∙ ap commands.Next c.in-Some.is) c.answer_key-in-Some.ensures.cause
 
+pub returns-in-Some-clause-closes : goal.returns-in-Some-clause-closes
+returns-in-Some-clause-closes g c = closes_as c.args.command.now (commands.Next (Some c.in-Some.words)) _ _ _ _ (c.in-Next.is ∙ ap commands.Next c.in-Some.is) tt
+
 pub returns-in-List-clause-answer : goal.returns-in-List-clause-answer
 returns-in-List-clause-answer g c = answered_as c.args.command.now _ _ _ _ _ c.in-List.is c.answer-in-List.ensures.answer
 
 pub returns-in-List-clause-cause : goal.returns-in-List-clause-cause
 returns-in-List-clause-cause g c = caused_as c.args.command.now _ _ _ _ c.in-List.is c.answer-in-List.ensures.cause
+
+pub returns-in-List-clause-closes : goal.returns-in-List-clause-closes
+returns-in-List-clause-closes g c = closes_as c.args.command.now _ _ _ _ _ c.in-List.is tt
 
 pub returns-in-Store-clause-answer : goal.returns-in-Store-clause-answer
 returns-in-Store-clause-answer g c = answered_as c.args.command.now _ _ _ _ _ c.in-Store.is c.answer_pair.ensures.answer
@@ -83,11 +120,17 @@ returns-in-Store-clause-answer g c = answered_as c.args.command.now _ _ _ _ _ c.
 pub returns-in-Store-clause-cause : goal.returns-in-Store-clause-cause
 returns-in-Store-clause-cause g c = caused_as c.args.command.now _ _ _ _ c.in-Store.is c.answer_pair.ensures.cause
 
+pub returns-in-Store-clause-closes : goal.returns-in-Store-clause-closes
+returns-in-Store-clause-closes g c = closes_as c.args.command.now _ _ _ _ _ c.in-Store.is tt
+
 pub returns-in-Insert-clause-answer : goal.returns-in-Insert-clause-answer
 returns-in-Insert-clause-answer g c = answered_as c.args.command.now _ _ _ _ _ c.in-Insert.is c.answer_pair-in-Insert.ensures.answer
 
 pub returns-in-Insert-clause-cause : goal.returns-in-Insert-clause-cause
 returns-in-Insert-clause-cause g c = caused_as c.args.command.now _ _ _ _ c.in-Insert.is c.answer_pair-in-Insert.ensures.cause
+
+pub returns-in-Insert-clause-closes : goal.returns-in-Insert-clause-closes
+returns-in-Insert-clause-closes g c = closes_as c.args.command.now _ _ _ _ _ c.in-Insert.is tt
 
 pub returns-in-Delete-clause-answer : goal.returns-in-Delete-clause-answer
 returns-in-Delete-clause-answer g c = answered_as c.args.command.now _ _ _ _ _ c.in-Delete.is c.answer_key-in-Delete.ensures.answer
@@ -95,8 +138,14 @@ returns-in-Delete-clause-answer g c = answered_as c.args.command.now _ _ _ _ _ c
 pub returns-in-Delete-clause-cause : goal.returns-in-Delete-clause-cause
 returns-in-Delete-clause-cause g c = caused_as c.args.command.now _ _ _ _ c.in-Delete.is c.answer_key-in-Delete.ensures.cause
 
+pub returns-in-Delete-clause-closes : goal.returns-in-Delete-clause-closes
+returns-in-Delete-clause-closes g c = closes_as c.args.command.now _ _ _ _ _ c.in-Delete.is tt
+
 pub returns-in-Fill-clause-answer : goal.returns-in-Fill-clause-answer
 returns-in-Fill-clause-answer g c = answered_as c.args.command.now _ _ _ _ _ c.in-Fill.is c.answer-in-Fill.ensures.answer
 
 pub returns-in-Fill-clause-cause : goal.returns-in-Fill-clause-cause
 returns-in-Fill-clause-cause g c = caused_as c.args.command.now _ _ _ _ c.in-Fill.is c.answer-in-Fill.ensures.cause
+
+pub returns-in-Fill-clause-closes : goal.returns-in-Fill-clause-closes
+returns-in-Fill-clause-closes g c = closes_as c.args.command.now _ _ _ _ _ c.in-Fill.is tt
