@@ -5,6 +5,14 @@ PROGRAMS = gdbm_dump gdbmtool
 PREFIX ?= /usr/local
 DB ?= crates/gdbm_dump/data/a.gdbm
 
+# Where `make install` takes the programs from, and where it puts what below $(DESTDIR)$(PREFIX).
+BIN ?= bin
+PAGES = share/man/man1
+BASH_FILES = share/bash-completion/completions
+ZSH_FILES = share/zsh/site-functions
+FISH_FILES = share/fish/vendor_completions.d
+ROOT = $(DESTDIR)$(PREFIX)
+
 all: $(PROGRAMS:%=bin/%)
 
 sources = $(shell find crates -path '*/out' -prune -o -type f \( -name '*.rt' -o -name '*.antt' \) -print) crates.txt
@@ -50,7 +58,9 @@ gate:
 help:
 	@echo 'make                 builds the programs into bin/'
 	@echo 'make dump DB=FILE    prints the dump of a database file'
-	@echo 'make install PREFIX=/usr/local DESTDIR=   installs the programs'
+	@echo 'make install PREFIX=/usr/local DESTDIR=   builds and installs the programs, their pages and completions'
+	@echo 'make install-files   the same of what stands in bin/, and builds nothing'
+	@echo 'make uninstall PREFIX=/usr/local DESTDIR=   removes what install put there'
 	@echo 'make check           the gate: proofs, wrong bodies, tests, programs'
 	@echo 'make clean           removes bin/'
 	@echo 'For one crate, as CRATE=gd_store:'
@@ -62,10 +72,23 @@ help:
 	@echo 'make gate            the gate of it and of the crates below it, on a copy'
 
 install: all
-	install -d "$(DESTDIR)$(PREFIX)/bin"
-	install -m 755 $(PROGRAMS:%=bin/%) "$(DESTDIR)$(PREFIX)/bin"
+	@$(MAKE) --no-print-directory install-files
+
+install-files:
+	install -d "$(ROOT)/bin" "$(ROOT)/$(PAGES)" "$(ROOT)/$(BASH_FILES)" "$(ROOT)/$(ZSH_FILES)" "$(ROOT)/$(FISH_FILES)"
+	install -m 755 $(PROGRAMS:%="$(BIN)/%") "$(ROOT)/bin"
+	install -m 644 $(PROGRAMS:%=man/%.1) "$(ROOT)/$(PAGES)"
+	install -m 644 $(PROGRAMS:%=completions/bash/%) "$(ROOT)/$(BASH_FILES)"
+	install -m 644 $(PROGRAMS:%=completions/zsh/_%) "$(ROOT)/$(ZSH_FILES)"
+	install -m 644 $(PROGRAMS:%=completions/fish/%.fish) "$(ROOT)/$(FISH_FILES)"
+
+# Folders stay.
+uninstall:
+	rm -f $(PROGRAMS:%="$(ROOT)/bin/%") $(PROGRAMS:%="$(ROOT)/$(PAGES)/%.1")
+	rm -f $(PROGRAMS:%="$(ROOT)/$(BASH_FILES)/%") $(PROGRAMS:%="$(ROOT)/$(ZSH_FILES)/_%")
+	rm -f $(PROGRAMS:%="$(ROOT)/$(FISH_FILES)/%.fish")
 
 clean:
 	rm -rf bin
 
-.PHONY: all dump check install clean try prove test edits more-edits gate help
+.PHONY: all dump check install install-files uninstall clean try prove test edits more-edits gate help
