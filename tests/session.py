@@ -167,9 +167,14 @@ def print_records(path):
         print(line)
 
 
-if len(sys.argv) == 5 and sys.argv[1] == "script":
-    write_script(sys.argv[2], int(sys.argv[3]), int(sys.argv[4]))
-elif len(sys.argv) == 3 and sys.argv[1] == "records":
-    print_records(sys.argv[2])
-else:
-    sys.exit(__doc__)
+def main(argv):
+    if len(argv) == 5 and argv[1] == "script":
+        write_script(argv[2], int(argv[3]), int(argv[4]))
+    elif len(argv) == 3 and argv[1] == "records":
+        print_records(argv[2])
+    else:
+        sys.exit(__doc__)
+
+
+if __name__ == "__main__":
+    main(sys.argv)
