@@ -1,12 +1,9 @@
 -- Chains of turns.
-use Rattle.std.proofs.Common.{◌≡◌, ◌≢◌, ◌⊎◌, inl, inr, ℕ, ◌+◌, ◌≤◌, List, [], ◌∷◌, ◌++◌, length, Option, Some, None, Result, Ok, Err, refl, sym, ap, subst, ◌∙◌, arith, length-append}
+use Rattle.std.proofs.Common.{◌≡◌, ℕ, false, ◌≤◌, List, [], ◌∷◌, ◌++◌, length, Option, Some, refl, sym, ap, subst, ◌∙◌, arith, length-append}
 use Rattle.std.proofs.lemmas.List.{append-nil, append_assoc}
 use Rattle.gd_base.specs.Clocks.{Readings}
-use Rattle.gd_base.specs.Streams.{and_then}
 use Rattle.gd_base.proofs.Writes.{all-after, put-nothing}
 use Rattle.gd_lang.specs.declared.commands.Command.{Command}
-use Rattle.gd_session.specs.declared.reply.Reply.{Reply}
-use Rattle.gd_session.specs.declared.reply.Reply.TheVariants.{SinkFault}
 use Rattle.gd_vault.specs.Content.{Content}
 use Rattle.gd_vault.specs.Events.{Event, content_after, moment_after}
 use Rattle.gd_vault.specs.Frame.{Frame}
@@ -17,49 +14,30 @@ use Rattle.gd_vault.proofs.FrameLeft.{same_past}
 use Rattle.gd_vault.proofs.WasLeft.{was_now}
 use Rattle.gd_script.specs.Answers as answers
 use Rattle.gd_script.specs.Answers.{Answered, AnswerCause, AnyFile, AnyName, GivesMore, LineAnswers, LineSteps, LineTold, Text, given_in}
-use Rattle.gd_script.specs.Chain.{CalmChain, Chain, Counted, GoesOn, IsCalm, Link, NeverFall, Now, answered_at, counts_of}
+use Rattle.gd_script.specs.Chain.{Calm, Chain, Counted, IsCalm, LastTurn, Link, NeverFall, Now, answered_at, counts_of}
 use Rattle.gd_script.specs.Lines.{Line}
-use Rattle.gd_script.specs.Run.{Linked, Ran, RunsBy, now_of}
-use Rattle.gd_script.specs.Turns.{Objects, Turned, faults_of}
-use Rattle.gd_script.specs.declared.turns.Answer.TheVariants as answer
+use Rattle.gd_script.specs.Run.{Ran, Runs, now_of}
+use Rattle.gd_script.specs.Turns.{CalmTurned, Objects, Turned, faults_of}
 use Rattle.gd_script.specs.declared.turns.Faults.{Faults}
 use Rattle.gd_script.specs.declared.turns.Turn.{Turn}
 
 -- ---- a turn more
 
-calm_push : {T : Type 0} (step : Command → Answered T → Type 0) (was_at : ℕ → Content) (ds : List Line) (line : Line) (ts : List Turn) (t : Turn) (n mid m : Now T)
-    → length ds ≡ length ts → CalmChain step was_at ds ts n mid → Link step was_at line t mid m → IsCalm mid m t → CalmChain step was_at (ds ++ line ∷ []) (ts ++ t ∷ []) n m
-unfolding CalmChain
-calm_push {T = T} step was_at [] line [] t n mid m e c l k = (m, subst (λ (a : Now T). Link step was_at line t a m) c l, subst (λ (a : Now T). IsCalm a m t) c k, refl)
-calm_push step was_at [] line (s ∷ ts) t n mid m e c l k = absurd (omega (arith, e))
-calm_push step was_at (d ∷ ds) line [] t n mid m e c l k = absurd (omega (arith, e))
-calm_push step was_at (d ∷ ds) line (s ∷ ts) t n mid m e c l k = (c.0, c.1, c.2, calm_push step was_at ds line ts t c.0 mid m (omega (arith, e)) c.3 l k)
-
-calm_on : {T : Type 0} (n mid : Now T) (t : Turn) (ts : List Turn) → IsCalm n mid t → GoesOn n mid t ts
-calm_on n mid t ts k = record { answered = λ is. absurd (k.answered is); counted = inr (k.out, k.err) }
-
--- the last turn, whatever failed in it
-last_push : {T : Type 0} (step : Command → Answered T → Type 0) (was_at : ℕ → Content) (ds : List Line) (line : Line) (ts : List Turn) (t : Turn) (n mid m : Now T)
-    → length ds ≡ length ts → CalmChain step was_at ds ts n mid → Link step was_at line t mid m → Chain step was_at (ds ++ line ∷ []) (ts ++ t ∷ []) n m
-unfolding Chain CalmChain
-last_push {T = T} step was_at [] line [] t n mid m e c l = (m, subst (λ (a : Now T). Link step was_at line t a m) c l, record { answered = λ is. refl; counted = inl refl }, refl)
-last_push step was_at [] line (s ∷ ts) t n mid m e c l = absurd (omega (arith, e))
-last_push step was_at (d ∷ ds) line [] t n mid m e c l = absurd (omega (arith, e))
-last_push step was_at (d ∷ ds) line (s ∷ ts) t n mid m e c l = (c.0, c.1, calm_on n c.0 s (ts ++ t ∷ []) c.2, last_push step was_at ds line ts t c.0 mid m (omega (arith, e)) c.3 l)
-
-calm_chain : {T : Type 0} (step : Command → Answered T → Type 0) (was_at : ℕ → Content) (ds : List Line) (ts : List Turn) (n m : Now T) → CalmChain step was_at ds ts n m → Chain step was_at ds ts n m
-unfolding Chain CalmChain
-calm_chain step was_at ds [] n m c = c
-calm_chain step was_at [] (t ∷ ts) n m c = c
-calm_chain step was_at (d ∷ ds) (t ∷ ts) n m c = (c.0, c.1, calm_on n c.0 t ts c.2, calm_chain step was_at ds ts c.0 m c.3)
+chain_push : {T : Type 0} (step : Command → Answered T → Type 0) (was_at : ℕ → Content) (ds : List Line) (line : Line) (ts : List Turn) (t : Turn) (n mid m : Now T)
+    → length ds ≡ length ts → Chain step was_at ds ts n mid → Link step was_at line t mid m → Chain step was_at (ds ++ line ∷ []) (ts ++ t ∷ []) n m
+unfolding Chain
+chain_push {T = T} step was_at [] line [] t n mid m e c l = (m, subst (λ (a : Now T). Link step was_at line t a m) c l, refl)
+chain_push step was_at [] line (s ∷ ts) t n mid m e c l = absurd (omega (arith, e))
+chain_push step was_at (d ∷ ds) line [] t n mid m e c l = absurd (omega (arith, e))
+chain_push step was_at (d ∷ ds) line (s ∷ ts) t n mid m e c l = (c.0, c.1, chain_push step was_at ds line ts t c.0 mid m (omega (arith, e)) c.2 l)
 
 -- ---- more events
 
-chain_later : {T : Type 0} (step : Command → Answered T → Type 0) (was_at : ℕ → Content) (ds : List Line) (ts : List Turn) (n m : Now T) → CalmChain step was_at ds ts n m → n.moment ≤ m.moment
-unfolding CalmChain
+chain_later : {T : Type 0} (step : Command → Answered T → Type 0) (was_at : ℕ → Content) (ds : List Line) (ts : List Turn) (n m : Now T) → Chain step was_at ds ts n m → n.moment ≤ m.moment
+unfolding Chain
 chain_later {T = T} step was_at ds [] n m c = omega (arith, ap (λ (k : Now T). k.moment) c)
 chain_later step was_at [] (t ∷ ts) n m c = absurd c
-chain_later step was_at (d ∷ ds) (t ∷ ts) n m c = omega (arith, c.1.later, chain_later step was_at ds ts c.0 m c.3)
+chain_later step was_at (d ∷ ds) (t ∷ ts) n m c = omega (arith, c.1.later, chain_later step was_at ds ts c.0 m c.2)
 
 -- a link by other contents that agree at its moments
 link_same : {T : Type 0} (step : Command → Answered T → Type 0) (was_at now_at : ℕ → Content) (line : Line) (t : Turn) (n m : Now T) → now_at n.moment ≡ was_at n.moment → now_at m.moment ≡ was_at m.moment → Link step was_at line t n m → Link step now_at line t n m
@@ -78,15 +56,15 @@ link_same step was_at now_at line t n m before after l = record {
 }
 
 chain_more : {T : Type 0} (step : Command → Answered T → Type 0) (first : Content) (es more : List Event) (ds : List Line) (ts : List Turn) (n m : Now T) → m.moment ≤ moment_after es
-    → CalmChain step (was first es) ds ts n m → CalmChain step (was first (more ++ es)) ds ts n m
-unfolding CalmChain
+    → Chain step (was first es) ds ts n m → Chain step (was first (more ++ es)) ds ts n m
+unfolding Chain
 chain_more step first es more ds [] n m le c = c
 chain_more step first es more [] (t ∷ ts) n m le c = c
 chain_more step first es more (d ∷ ds) (t ∷ ts) n m le c =
-    let on = chain_later step (was first es) ds ts c.0 m c.3 in
+    let on = chain_later step (was first es) ds ts c.0 m c.2 in
     let b = (same_past first es more n.moment (omega (arith, c.1.later, on, le))).was in
     let a = (same_past first es more c.0.moment (omega (arith, on, le))).was in
-    (c.0, link_same step (was first es) (was first (more ++ es)) d t n c.0 b a c.1, c.2, chain_more step first es more ds ts c.0 m le c.3)
+    (c.0, link_same step (was first es) (was first (more ++ es)) d t n c.0 b a c.1, chain_more step first es more ds ts c.0 m le c.2)
 
 -- ---- counts
 
@@ -116,6 +94,46 @@ count_turn step line turns turns' start old new t c =
 pub count_none : (f : Faults) → Counted f [] f
 unfolding Counted
 count_none f = refl
+
+-- ---- turns behind which another one may come
+
+pub calm_none : (f : Faults) → Calm f [] []
+unfolding Calm
+calm_none f = tt
+
+calm_push : (f g : Faults) (ds : List Line) (line : Line) (ts : List Turn) (t : Turn) → Calm f ds ts → Counted f ts g → IsCalm g line t → Calm f (ds ++ line ∷ []) (ts ++ t ∷ [])
+unfolding Calm Counted
+calm_push f g [] line [] t c n k = (subst (λ (h : Faults). IsCalm h line t) n k, tt)
+calm_push f g [] line (s ∷ ts) t c n k = absurd c
+calm_push f g (d ∷ ds) line [] t c n k = absurd c
+calm_push f g (d ∷ ds) line (s ∷ ts) t c n k = (c.0, calm_push s.faults g ds line ts t c.1 n.2 k)
+
+-- a turn in which nothing failed
+pub calm_turn : {T : Type 0} (step : Command → Answered T → Type 0) (ds : List Line) (line : Line) (turns turns' : List Turn) (start old new : Objects T)
+    → (c : CalmTurned step line false turns turns' old new) → Calm (faults_of start) ds turns → Counted (faults_of start) turns (faults_of old) → Calm (faults_of start) (ds ++ line ∷ []) turns'
+calm_turn step ds line turns turns' start old new c calm counted =
+    let t = c.turned in
+    subst (λ (ts : List Turn). Calm (faults_of start) (ds ++ line ∷ []) ts) (sym t.pushed)
+    (calm_push (faults_of start) (faults_of old) ds line turns t.turn calm counted record {
+      goes_on = c.quits_is;
+      answered = c.calm.answered;
+      input = ap (λ (f : Faults). f.input) t.counts ∙ t.input_faults;
+      out = ap (λ (f : Faults). f.out) t.counts ∙ c.calm.out;
+      err = ap (λ (f : Faults). f.err) t.counts ∙ c.calm.err;
+    })
+
+-- a turn more is the last one
+unfoldable pub last_turn : {T : Type 0} (step : Command → Answered T → Type 0) (ds : List Line) (line : Line) (turns turns' : List Turn) (f : Faults) (old new : Objects T)
+    → Turned step line turns turns' old new → Calm f ds turns → LastTurn f (ds ++ line ∷ []) turns'
+last_turn step ds line turns turns' f old new t calm = record {
+  lines = ds;
+  line = line;
+  before = turns;
+  turn = t.turn;
+  ds_is = refl;
+  turns_is = t.pushed;
+  calm = calm;
+}
 
 -- ---- a line more
 
@@ -154,17 +172,9 @@ gives_more a b c xs ys f h = λ r is.
     let n = h (record { given = r.given ++ xs; next = m.0 }) m.1 in
     (n.0, n.1 ∙ ap (λ (g : List ℕ). Some (record { given = g; next = n.0 })) (append_assoc r.given xs ys))
 
--- how a turn is put behind a calm chain
-Pushes : {T : Type 0} → (Command → Answered T → Type 0) → Linked T → List Line → Line → List Turn → Turn → (old mid new : Objects T) → Type 0
-Pushes step linked ds line ts t old mid new = (was_at : ℕ → Content) (es ev ev' : List Event) (out out' : Text) (rs rs' : List ℕ)
-    → CalmChain step was_at ds ts (now_of old es [] []) (now_of mid ev out rs) → Link step was_at line t (now_of mid ev out rs) (now_of new ev' out' rs')
-    → linked was_at (ds ++ line ∷ []) (ts ++ t ∷ []) (now_of old es [] []) (now_of new ev' out' rs')
-
-ran_more : {T : Type 0} (step : Command → Answered T → Type 0) (linked : Linked T) (ds : List Line) (line : Line) (turns turns' : List Turn) (first : Content) (es : List Event) (old mid new : Objects T)
-    → (t : Turned step line turns turns' mid new) → Ran (CalmChain step) ds turns first es old mid → Pushes step linked ds line turns t.turn old mid new
-    → Ran linked (ds ++ line ∷ []) (turns ++ t.turn ∷ []) first es old new
-unfolding Pushes
-ran_more {T = T} step linked ds line turns turns' first es old mid new t r push =
+ran_more : {T : Type 0} (step : Command → Answered T → Type 0) (ds : List Line) (line : Line) (turns turns' : List Turn) (first : Content) (es : List Event) (old mid new : Objects T)
+    → length ds ≡ length turns → (t : Turned step line turns turns' mid new) → Ran step ds turns first es old mid → Ran step (ds ++ line ∷ []) (turns ++ t.turn ∷ []) first es old new
+ran_more {T = T} step ds line turns turns' first es old mid new same t r =
     let events : List Event = r.more ++ es in
     let frame : Frame AnyFile AnyName (Records first events) new.scene.view.told = subst (λ (u : Told). Frame AnyFile AnyName u new.scene.view.told) r.told t.steps.grows.told in
     let more : List Event = frame.0 in
@@ -172,8 +182,9 @@ ran_more {T = T} step linked ds line turns turns' first es old mid new t r push 
     let here : content_of mid.scene.view.told ≡ Some (content_after first events) = ap content_of r.told in
     let a = t.steps.told (content_after first events) here in
     let link = link_of step line turns turns' first events more mid new r.out r.readings r.told told t a in
+    let end = now_of new (more ++ events) (r.out ++ a.text) (r.readings ++ given_in t.turn.reading) in
     let c = chain_more step first events more ds turns (now_of old es [] []) (now_of mid events r.out r.readings) (omega arith) r.chain in
-    let pushed = push (was first (more ++ events)) es events (more ++ events) r.out (r.out ++ a.text) r.readings (r.readings ++ given_in t.turn.reading) c link in
+    let pushed = chain_push step (was first (more ++ events)) ds line turns t.turn (now_of old es [] []) (now_of mid events r.out r.readings) end same c link in
     let all : more ++ events ≡ (more ++ r.more) ++ es = sym (append_assoc more r.more es) in
     record {
       more = more ++ r.more;
@@ -182,46 +193,23 @@ ran_more {T = T} step linked ds line turns turns' first es old mid new t r push 
       written = all-after old.scene.written mid.scene.written new.scene.written r.out a.text r.written a.written;
       readings = r.readings ++ given_in t.turn.reading;
       clock = gives_more old.scene.told mid.scene.told new.scene.told r.readings (given_in t.turn.reading) r.clock t.steps.clock;
-      chain = subst (λ (ev : List Event). linked (was first ev) (ds ++ line ∷ []) (turns ++ t.turn ∷ []) (now_of old es [] []) (now_of new ev (r.out ++ a.text) (r.readings ++ given_in t.turn.reading))) all pushed;
+      chain = subst (λ (ev : List Event). Chain step (was first ev) (ds ++ line ∷ []) (turns ++ t.turn ∷ []) (now_of old es [] []) (now_of new ev (r.out ++ a.text) (r.readings ++ given_in t.turn.reading))) all pushed;
     }
 
-runs_more : {T : Type 0} (step : Command → Answered T → Type 0) (linked : Linked T) (ds : List Line) (line : Line) (turns turns' : List Turn) (old mid new : Objects T)
-    → (t : Turned step line turns turns' mid new) → RunsBy (CalmChain step) ds turns old mid → Pushes step linked ds line turns t.turn old mid new
-    → RunsBy linked (ds ++ line ∷ []) turns' old new
-runs_more step linked ds line turns turns' old mid new t runs push =
-    subst (λ (ts : List Turn). RunsBy linked (ds ++ line ∷ []) ts old new) (sym t.pushed)
-    (λ first es told. ran_more step linked ds line turns turns' first es old mid new t (runs first es told) push)
+-- a turn more
+pub runs_more : {T : Type 0} (step : Command → Answered T → Type 0) (ds : List Line) (line : Line) (turns turns' : List Turn) (old mid new : Objects T)
+    → length ds ≡ length turns → (t : Turned step line turns turns' mid new) → Runs step ds turns old mid → Runs step (ds ++ line ∷ []) turns' old new
+runs_more step ds line turns turns' old mid new same t runs =
+    subst (λ (ts : List Turn). Runs step (ds ++ line ∷ []) ts old new) (sym t.pushed)
+    (λ first es told. ran_more step ds line turns turns' first es old mid new same t (runs first es told))
 
--- the last turn
-pub runs_last : {T : Type 0} (step : Command → Answered T → Type 0) (ds : List Line) (line : Line) (turns turns' : List Turn) (old mid new : Objects T)
-    → length ds ≡ length turns → Turned step line turns turns' mid new → RunsBy (CalmChain step) ds turns old mid → RunsBy (Chain step) (ds ++ line ∷ []) turns' old new
-unfolding Pushes
-runs_last step ds line turns turns' old mid new same t runs =
-    runs_more step (Chain step) ds line turns turns' old mid new t runs
-    (λ was_at es ev ev' out out' rs rs' c link. last_push step was_at ds line turns t.turn (now_of old es [] []) (now_of mid ev out rs) (now_of new ev' out' rs') same c link)
-
--- a turn behind which another may come
-pub runs_on : {T : Type 0} (step : Command → Answered T → Type 0) (ds : List Line) (line : Line) (turns turns' : List Turn) (old mid new : Objects T)
-    → length ds ≡ length turns → (t : Turned step line turns turns' mid new) → t.turn.answer ≢ answer.Command SinkFault → new.scene.out_faults ≡ mid.scene.out_faults → new.err_faults ≡ mid.err_faults
-    → RunsBy (CalmChain step) ds turns old mid → RunsBy (CalmChain step) (ds ++ line ∷ []) turns' old new
-unfolding Pushes
-runs_on step ds line turns turns' old mid new same t calm out err runs =
-    runs_more step (CalmChain step) ds line turns turns' old mid new t runs
-    (λ was_at es ev ev' out_ out' rs rs' c link. calm_push step was_at ds line turns t.turn (now_of old es [] []) (now_of mid ev out_ rs) (now_of new ev' out' rs') same c link (record { answered = calm; out = out; err = err }))
-
--- the turns so far, where no other comes
-pub runs_calm : {T : Type 0} (step : Command → Answered T → Type 0) (ds : List Line) (turns : List Turn) (old new : Objects T) → RunsBy (CalmChain step) ds turns old new → RunsBy (Chain step) ds turns old new
-runs_calm step ds turns old new runs = λ first es told.
-    let r = runs first es told in
-    record { more = r.more; told = r.told; out = r.out; written = r.written; readings = r.readings; clock = r.clock; chain = calm_chain step (was first (r.more ++ es)) ds turns (now_of old es [] []) (now_of new (r.more ++ es) r.out r.readings) r.chain }
-
-pub runs_none : {T : Type 0} (step : Command → Answered T → Type 0) (o : Objects T) → RunsBy (CalmChain step) [] [] o o
-unfolding CalmChain
+pub runs_none : {T : Type 0} (step : Command → Answered T → Type 0) (o : Objects T) → Runs step [] [] o o
+unfolding Chain
 runs_none step o = λ first es told. record { more = []; told = told; out = []; written = put-nothing o.scene.written; readings = []; clock = gives_none o.scene.told; chain = refl }
 
 -- the same where only the input was asked since
 pub runs_reread : {T : Type 0} (step : Command → Answered T → Type 0) (ds : List Line) (turns : List Turn) (old mid new : Objects T)
-    → new.scene ≡ mid.scene → new.input_faults ≡ mid.input_faults → new.err_faults ≡ mid.err_faults → RunsBy (CalmChain step) ds turns old mid → RunsBy (CalmChain step) ds turns old new
+    → new.scene ≡ mid.scene → new.input_faults ≡ mid.input_faults → new.err_faults ≡ mid.err_faults → Runs step ds turns old mid → Runs step ds turns old new
 runs_reread {T = T} step ds turns old mid new scene input err runs = λ first es told.
     let r = runs first es told in
     let at_now : (ev : List Event) (out : Text) (rs : List ℕ) → now_of mid ev out rs ≡ now_of new ev out rs = λ ev out rs. λ i. record {
@@ -238,5 +226,5 @@ runs_reread {T = T} step ds turns old mid new scene input err runs = λ first es
       written = ap (λ (s : answers.Scene T). s.written) scene ∙ r.written;
       readings = r.readings;
       clock = subst (λ (s : answers.Scene T). GivesMore old.scene.told s.told r.readings) (sym scene) r.clock;
-      chain = subst (λ (n : Now T). CalmChain step (was first (r.more ++ es)) ds turns (now_of old es [] []) n) (at_now (r.more ++ es) r.out r.readings) r.chain;
+      chain = subst (λ (n : Now T). Chain step (was first (r.more ++ es)) ds turns (now_of old es [] []) n) (at_now (r.more ++ es) r.out r.readings) r.chain;
     }

@@ -1,5 +1,5 @@
 -- The lines of an input, piece by piece.
-use Rattle.std.proofs.Common.{◌≡◌, ℕ, ◌<◌, ◌==◌, ◌||◌, Bool, true, false, if◌then◌else◌, List, [], ◌∷◌, ◌++◌, length, map, refl, sym, ap, subst, ◌∙◌, arith, Option, Some, None}
+use Rattle.std.proofs.Common.{◌≡◌, ℕ, ◌<◌, ◌==◌, ◌||◌, Bool, true, false, if◌then◌else◌, List, [], ◌∷◌, ◌++◌, length, map, refl, sym, ap, ◌∙◌, arith}
 use Rattle.std.proofs.lemmas.List.{append-nil, append_assoc}
 use Rattle.gd_lang.specs.Commands.{command_of_line}
 use Rattle.gd_script.specs.Lines.{Line, commands_in, commands_of, has_feed, is_quit, lines_of, rest_from, unless_empty, up_to_quit, whole_commands, whole_from, whole_lines}

@@ -1,9 +1,9 @@
 -- The command of a line, and its answer.
-use Rattle.std.proofs.Common.{◌≡◌, ◌≢◌, ℕ, ◌≤◌, List, [], ◌++◌, Option, Some, None, Result, Ok, Err, Bool, true, false, refl, sym, ap, subst, ◌∙◌, arith}
+use Rattle.std.proofs.Common.{◌≡◌, ◌≢◌, ℕ, [], Option, None, Result, Ok, Err, false, refl, sym, ap, subst, ◌∙◌, arith}
 use Rattle.gd_base.proofs.Writes.{put-nothing}
 use Rattle.gd_base.specs.declared.errors.OutOfMemory.{OutOfMemory}
 use Rattle.gd_lang.specs.Commands.{and_then}
-use Rattle.gd_lang.specs.Refusals.{Answers, Refuses}
+use Rattle.gd_lang.specs.Refusals.{Refuses}
 use Rattle.gd_lang.specs.declared.commands.Command.{Command}
 use Rattle.gd_lang.specs.declared.commands.Command.TheVariants as commands
 use Rattle.gd_lang.specs.declared.errors.LangError.{LangError}

@@ -1,12 +1,11 @@
 -- Lines from pieces of a source.
-use Rattle.std.proofs.Common.{◌≡◌, ◌≢◌, ℕ, zero, suc, ◌+◌, ◌<◌, ◌≤◌, ◌==◌, ◌||◌, Bool, true, false, List, [], ◌∷◌, ◌++◌, length, take, drop, get_or, Option, Some, None, option_map, Result, Ok, Err, refl, sym, ap, subst, ◌∙◌, arith, length-append}
+use Rattle.std.proofs.Common.{◌≡◌, ℕ, zero, suc, ◌+◌, ◌<◌, ◌==◌, ◌||◌, Bool, true, false, List, [], ◌∷◌, ◌++◌, length, take, drop, get_or, Option, Some, None, option_map, Ok, Err, refl, sym, ap, subst, ◌∙◌, arith, length-append}
 use Rattle.std.proofs.lemmas.Bool.{eqb-true}
 use Rattle.std.proofs.lemmas.List.{append-nil, append_assoc, drop-drop, take-append-drop}
 use Rattle.std.proofs.Math.Seq.{drop-cons}
 use Rattle.memchr.specs.Find.{IsFirstByte, is_byte}
 use Rattle.gd_script.specs.Lines.{has_feed}
-use Rattle.gd_base.specs.Causes.{Rose}
-use Rattle.gd_script.specs.Reading.{Began, Gives, LastIs, PartsFront, Reading, Refills, Takes, TakesFront}
+use Rattle.gd_script.specs.Reading.{Began, FailsOnce, Gives, LastIs, PartsFront, Reading, Refills, Takes, TakesFront}
 use Rattle.gd_script.specs.declared.ending.Ending.{Ending}
 use Rattle.gd_script.specs.declared.ending.Ending.TheVariants.{Read, InputFailed, TooLong, OutputFailed, ErrorFailed, Starved}
 use Rattle.gd_script.specs.declared.reader.Next.{Next}
@@ -183,7 +182,7 @@ gives_fault InputFailed line a b c began empty r =
     let s = gives_plain line a b c began empty r.0 in record {
       got = s.0;
       takes = s.1;
-      is = (s.2, subst (λ (k : ℕ). Rose k c.faults) began.faults r.1, subst (λ (k : ℕ). k ≤ c.faults) began.faults r.2);
+      is = (s.2, subst (λ (k : ℕ). FailsOnce k c.faults) began.faults r.1);
     }
 gives_fault TooLong line a b c began empty r =
     let s = gives_plain line a b c began empty (takes_none b c (ap (λ (q : Reading). q.left) r.0) (ap (λ (q : Reading). q.taken) r.0)) in record {

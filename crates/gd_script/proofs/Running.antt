@@ -1,18 +1,18 @@
 -- The loop over lines: where a run stands after one more, and how it ends.
-use Rattle.std.proofs.Common.{◌≡◌, ◌≢◌, ℕ, ◌+◌, ◌-◌, ◌<◌, ◌≤◌, ◌^◌, Bool, true, false, List, [], ◌∷◌, ◌++◌, length, drop, Option, Some, None, option_map, Result, Ok, Err, refl, sym, ap, subst, ◌∙◌, arith, length-append}
+use Rattle.std.proofs.Common.{◌≡◌, ℕ, ◌+◌, ◌-◌, ◌<◌, ◌≤◌, ◌^◌, inl, inr, true, false, List, [], ◌∷◌, ◌++◌, length, take, drop, Option, Some, None, option_map, Result, Ok, Err, refl, sym, ap, subst, ◌∙◌, arith, length-append}
 use Rattle.std.proofs.lemmas.List.{append-nil, append_assoc}
 use Rattle.gd_base.specs.Causes.{Rose}
 use Rattle.gd_base.specs.Sources.{IsAtEnd}
-use Rattle.gd_base.specs.Streams.{WritesFront, and_then}
-use Rattle.gd_base.proofs.Writes.{all-after, front-after, put-nothing}
+use Rattle.gd_base.specs.Streams.{and_then}
+use Rattle.gd_base.proofs.Writes.{all-after, put-nothing}
 use Rattle.gd_lang.specs.Commands.{command_of_line}
 use Rattle.gd_lang.specs.declared.commands.Command.{Command}
 use Rattle.gd_vault.specs.Views.{View}
 use Rattle.gd_script.specs.Answers.{Answered}
-use Rattle.gd_script.specs.Chain.{CalmChain, Chain, Counted}
+use Rattle.gd_script.specs.Chain.{Calm, Counted}
 use Rattle.gd_script.specs.Lines.{Line, commands_of, is_quit, has_feed}
-use Rattle.gd_script.specs.Reading.{Gives, IsWithin, Reading, Takes, reading}
-use Rattle.gd_script.specs.Run.{AfterNext, Begins, Cut, Ended, EndsFor, Nexts, RunsBy, SaysFor, Standing, reread}
+use Rattle.gd_script.specs.Reading.{FailsOnce, Gives, IsWithin, Reading, Takes, reading}
+use Rattle.gd_script.specs.Run.{AfterNext, AllCalm, Begins, Cut, Ended, EndsFor, ErrFails, InputFor, Nexts, OutFails, Quits, ReadsAll, Runs, Standing, reread}
 use Rattle.gd_script.specs.Says.{error_line, error_lines}
 use Rattle.gd_script.specs.Turns.{CalmTurned, ErrTurned, Objects, OutTurned, TurnEnds, Turned, Untouched, faults_of, last_ending}
 use Rattle.gd_script.specs.declared.ending.Ending.{Ending}
@@ -20,9 +20,8 @@ use Rattle.gd_script.specs.declared.ending.Ending.TheVariants.{Read, InputFailed
 use Rattle.gd_script.specs.declared.reader.Lines.{Lines}
 use Rattle.gd_script.specs.declared.reader.Next.{Next}
 use Rattle.gd_script.specs.declared.reader.Next.TheVariants as next
-use Rattle.gd_script.specs.declared.turns.Faults.{Faults}
 use Rattle.gd_script.specs.declared.turns.Turn.{Turn}
-use Rattle.gd_script.proofs.Chains.{count_none, count_turn, runs_calm, runs_last, runs_none, runs_on, runs_reread}
+use Rattle.gd_script.proofs.Chains.{calm_none, calm_turn, count_none, count_turn, last_turn, runs_more, runs_none, runs_reread}
 use Rattle.gd_script.proofs.Cutting.{all_end, all_last, all_quit, begins_line, begins_none, cut_line, cut_none, whole_front}
 use Rattle.gd_script.proofs.Pieces.{takes_none, told_twice}
 
@@ -63,7 +62,8 @@ standing_none {T = T} step ready r turns o is_ready none empty zero_taken =
       few = few;
       cut = subst (λ (w : List ℕ). Cut [] [] w) (sym empty) cut_none;
       same = sym (ap length none);
-      ran = subst (λ (ts : List Turn). RunsBy (CalmChain step) [] ts o o) (sym none) (runs_none step o);
+      ran = subst (λ (ts : List Turn). Runs step [] ts o o) (sym none) (runs_none step o);
+      calm = subst (λ (ts : List Turn). Calm (faults_of o) [] ts) (sym none) (calm_none (faults_of o));
       counted = subst (λ (ts : List Turn). Counted (faults_of o) ts (faults_of o)) (sym none) (count_none (faults_of o));
       said = subst (λ (ts : List Turn). o.said ≡ and_then o.said (error_lines 1 ts)) (sym none) (subst (λ (bs : List ℕ). o.said ≡ and_then o.said bs) (sym no_error_lines) (put-nothing o.said));
       input_calm = refl;
@@ -77,8 +77,9 @@ standing_none {T = T} step ready r turns o is_ready none empty zero_taken =
 pub record Before {T : Type 0} (step : Command → Answered T → Type 0) (ds : List Line) (taken : List ℕ) (turns : List Turn) (old mid : Objects T) : Type 0 where
   pub took : old.left ≡ option_map (λ xs. taken ++ xs) mid.left
   pub same : length ds ≡ length turns
-  pub ran : RunsBy (CalmChain step) ds turns old mid
+  pub ran : Runs step ds turns old mid
   pub counted : Counted (faults_of old) turns (faults_of mid)
+  pub calm : Calm (faults_of old) ds turns
   pub said : mid.said ≡ and_then old.said (error_lines 1 turns)
   pub input_calm : mid.input_faults ≡ old.input_faults
   pub out_calm : mid.scene.out_faults ≡ old.scene.out_faults
@@ -97,6 +98,7 @@ before step ready r turns old mid new got s left input = record {
   same = s.same;
   ran = runs_reread step s.ds turns old mid (reread mid new) refl input refl s.ran;
   counted = subst (λ (k : ℕ). Counted (faults_of old) turns (record (faults_of mid) { input = k })) (sym input) s.counted;
+  calm = s.calm;
   said = s.said;
   input_calm = input ∙ s.input_calm;
   out_calm = s.out_calm;
@@ -110,12 +112,6 @@ said_more : {T : Type 0} (step : Command → Answered T → Type 0) (line : Line
 said_more step line turns turns' old mid new t all one =
     all-after old.said mid.said new.said (error_lines 1 turns) (error_line (length turns + 1) t.turn.answer) all one
     ∙ ap (and_then old.said) (sym (lines_of_turn turns turns' t.turn t.pushed))
-
-front_more : {T : Type 0} (step : Command → Answered T → Type 0) (line : Line) (turns turns' : List Turn) (old mid new : Objects T) (t : Turned step line turns turns' mid new)
-    → mid.said ≡ and_then old.said (error_lines 1 turns) → WritesFront old.said new.said (error_lines 1 turns')
-front_more step line turns turns' old mid new t all =
-    subst (λ (bs : List ℕ). WritesFront old.said new.said bs) (sym (lines_of_turn turns turns' t.turn t.pushed))
-    (front-after old.said mid.said new.said (error_lines 1 turns) (error_line (length turns + 1) t.turn.answer) all t.said)
 
 same_more : {T : Type 0} (step : Command → Answered T → Type 0) (line : Line) (ds : List Line) (turns turns' : List Turn) (mid new : Objects T) → Turned step line turns turns' mid new → length ds ≡ length turns → length (ds ++ line ∷ []) ≡ length turns'
 same_more step line ds turns turns' mid new t same =
@@ -143,8 +139,9 @@ stands_more step ready r r' line turns turns' old mid new got s takes is plain i
       few = omega (arith, takes.taken, s.few, pushed, sizes);
       cut = cut_line s.ds s.taken r.waiting got line r'.waiting s.cut is plain c.quits_is;
       same = same_more step d s.ds turns turns' (reread mid new) new t b.same;
-      ran = runs_on step s.ds d turns turns' old (reread mid new) new b.same t c.calm.answered c.calm.out c.calm.err b.ran;
+      ran = runs_more step s.ds d turns turns' old (reread mid new) new b.same t b.ran;
       counted = count_turn step d turns turns' old (reread mid new) new t b.counted;
+      calm = calm_turn step s.ds d turns turns' old (reread mid new) new c b.calm b.counted;
       said = said_more step d turns turns' old (reread mid new) new t b.said c.calm.said;
       input_calm = b.input_calm;
       out_calm = c.calm.out ∙ b.out_calm;
@@ -156,86 +153,143 @@ stands_more step ready r r' line turns turns' old mid new got s takes is plain i
 ended_turn : {T : Type 0} (step : Command → Answered T → Type 0) (ending : Ending) (line : Line) (ds : List Line) (taken : List ℕ) (turns turns' : List Turn) (old mid new : Objects T)
     → Before step ds taken turns old mid → mid.left ≡ new.left → Turned step line turns turns' mid new
     → ((rest : List ℕ) → new.left ≡ Some rest → Begins (commands_of (taken ++ rest)) (ds ++ line ∷ []))
-    → SaysFor ending turns' old new → EndsFor ending (ds ++ line ∷ []) taken new new → Ended step ending turns' old new
-ended_turn step ending line ds taken turns turns' old mid new b left t begins says why = record {
-  mid = new;
-  scene = refl;
-  said_same = refl;
-  err_same = refl;
-  input_later = omega arith;
-  ds = ds ++ line ∷ [];
-  taken = taken;
-  took = b.took ∙ ap (option_map (λ xs. taken ++ xs)) left;
-  same = same_more step line ds turns turns' mid new t b.same;
-  begins = begins;
-  ran = runs_last step ds line turns turns' old mid new b.same t b.ran;
-  counted = count_turn step line turns turns' old mid new t b.counted;
-  says = says;
-  why = why;
+    → (new.input_faults ≡ old.input_faults → InputFor ending old.input_faults new.input_faults) → EndsFor ending (ds ++ line ∷ []) taken turns' old new new → Ended step ending turns' old new
+ended_turn step ending line ds taken turns turns' old mid new b left t begins input why =
+    let same : new.input_faults ≡ old.input_faults = t.input_faults ∙ b.input_calm in record {
+      mid = new;
+      scene = refl;
+      said_same = refl;
+      err_same = refl;
+      input_calm = same;
+      input = input same;
+      ds = ds ++ line ∷ [];
+      taken = taken;
+      took = b.took ∙ ap (option_map (λ xs. taken ++ xs)) left;
+      same = same_more step line ds turns turns' mid new t b.same;
+      begins = begins;
+      ran = runs_more step ds line turns turns' old mid new b.same t b.ran;
+      counted = count_turn step line turns turns' old mid new t b.counted;
+      why = why;
+    }
+
+-- the input was read to its end
+reads_all : {T : Type 0} (step : Command → Answered T → Type 0) (line : Line) (ds : List Line) (taken : List ℕ) (turns turns' : List Turn) (old mid new : Objects T)
+    → Before step ds taken turns old mid → CalmTurned step line false turns turns' mid new → IsAtEnd new.left → commands_of taken ≡ ds ++ line ∷ []
+    → ReadsAll (ds ++ line ∷ []) taken turns' old new new
+reads_all step line ds taken turns turns' old mid new b t end all = record {
+  calm = record {
+    calm = calm_turn step ds line turns turns' old mid new t b.calm b.counted;
+    out = t.calm.out ∙ b.out_calm;
+    err = t.calm.err ∙ b.err_calm;
+    said = said_more step line turns turns' old mid new t.turned b.said t.calm.said;
+  };
+  end = end;
+  all = all;
 }
+
+-- the line is that of `quit`
+quits_with : {T : Type 0} (step : Command → Answered T → Type 0) (line : Line) (ds : List Line) (taken : List ℕ) (turns turns' : List Turn) (old mid new : Objects T)
+    → Before step ds taken turns old mid → CalmTurned step line true turns turns' mid new → ((rest : List ℕ) → new.left ≡ Some rest → commands_of (taken ++ rest) ≡ ds ++ line ∷ [])
+    → Quits (ds ++ line ∷ []) taken turns' old new new
+unfolding last_turn
+quits_with step line ds taken turns turns' old mid new b t all = record {
+  last = last_turn step ds line turns turns' (faults_of old) mid new t.turned b.calm;
+  quits = t.quits_is;
+  out = t.calm.out ∙ b.out_calm;
+  err = t.calm.err ∙ b.err_calm;
+  said = said_more step line turns turns' old mid new t.turned b.said t.calm.said;
+  all = all;
+}
+
+-- the output failed
+out_fails : {T : Type 0} (step : Command → Answered T → Type 0) (line : Line) (ds : List Line) (taken : List ℕ) (turns turns' : List Turn) (old mid new : Objects T)
+    → Before step ds taken turns old mid → OutTurned step line turns turns' mid new → OutFails (ds ++ line ∷ []) turns' old new
+out_fails step line ds taken turns turns' old mid new b t = record {
+  last = last_turn step ds line turns turns' (faults_of old) mid new t.turned b.calm;
+  rose = subst (λ (k : ℕ). Rose k new.scene.out_faults) b.out_calm t.rose;
+  err = t.err ∙ b.err_calm;
+  said = said_more step line turns turns' old mid new t.turned b.said t.said;
+}
+
+-- standard error failed
+err_fails : {T : Type 0} (step : Command → Answered T → Type 0) (line : Line) (ds : List Line) (taken : List ℕ) (turns turns' : List Turn) (old mid new : Objects T)
+    → Before step ds taken turns old mid → ErrTurned step line turns turns' mid new → ErrFails (ds ++ line ∷ []) turns' old new
+unfolding last_turn
+err_fails step line ds taken turns turns' old mid new b t =
+    let said = t.turned.said in
+    let text = error_line (length turns + 1) t.turned.turn.answer in record {
+      last = last_turn step ds line turns turns' (faults_of old) mid new t.turned b.calm;
+      fails = subst (λ (k : ℕ). FailsOnce k new.err_faults) b.err_calm t.fails;
+      front = take said.0 text;
+      is_front = (said.0, refl);
+      said = all-after old.said mid.said new.said (error_lines 1 turns) (take said.0 text) b.said said.2;
+    }
+
+none_some : (e : Ending) → None ≡ Some e → ⊥
+none_some e is = cc
 
 -- by how the run ends in the turn
 ended_by : {T : Type 0} (step : Command → Answered T → Type 0) (end : Option Ending) (line : Line) (ds : List Line) (taken : List ℕ) (turns turns' : List Turn) (old mid new : Objects T)
     → Before step ds taken turns old mid → mid.left ≡ new.left → TurnEnds step line end turns turns' mid new
     → ((rest : List ℕ) → new.left ≡ Some rest → Begins (commands_of (taken ++ rest)) (ds ++ line ∷ []))
     → ((rest : List ℕ) → new.left ≡ Some rest → Begins (commands_of (taken ++ rest)) ds)
-    → (last_ending end ≡ Read → (rest : List ℕ) → new.left ≡ Some rest → commands_of (taken ++ rest) ≡ ds ++ line ∷ [])
+    → (None ≡ end → IsAtEnd new.left × (commands_of taken ≡ ds ++ line ∷ []))
+    → (end ≡ Some Read → (rest : List ℕ) → new.left ≡ Some rest → commands_of (taken ++ rest) ≡ ds ++ line ∷ [])
     → Ended step (last_ending end) turns' old new
-ended_by step None line ds taken turns turns' old mid new b left t begins none all =
-    ended_turn step Read line ds taken turns turns' old mid new b left t.turned begins
-    (t.calm.out ∙ b.out_calm, t.calm.err ∙ b.err_calm, said_more step line turns turns' old mid new t.turned b.said t.calm.said) (all refl)
-ended_by step (Some Read) line ds taken turns turns' old mid new b left t begins none all =
-    ended_turn step Read line ds taken turns turns' old mid new b left t.turned begins
-    (t.calm.out ∙ b.out_calm, t.calm.err ∙ b.err_calm, said_more step line turns turns' old mid new t.turned b.said t.calm.said) (all refl)
-ended_by step (Some OutputFailed) line ds taken turns turns' old mid new b left t begins none all =
-    ended_turn step OutputFailed line ds taken turns turns' old mid new b left t.turned begins
-    (subst (λ (k : ℕ). Rose k new.scene.out_faults) b.out_calm t.rose, t.err ∙ b.err_calm, said_more step line turns turns' old mid new t.turned b.said t.said) tt
-ended_by step (Some ErrorFailed) line ds taken turns turns' old mid new b left t begins none all =
-    ended_turn step ErrorFailed line ds taken turns turns' old mid new b left t.turned begins
-    (subst (λ (k : ℕ). Rose k new.err_faults) b.err_calm t.rose, front_more step line turns turns' old mid new t.turned b.said) tt
-ended_by {T = T} step (Some Starved) line ds taken turns turns' old mid new b left t begins none all = record {
+ended_by step None line ds taken turns turns' old mid new b left t begins none whole quits =
+    let w = whole refl in
+    ended_turn step Read line ds taken turns turns' old mid new b left t.turned begins (λ same. same) (inl (reads_all step line ds taken turns turns' old mid new b t w.0 w.1))
+ended_by step (Some Read) line ds taken turns turns' old mid new b left t begins none whole quits =
+    ended_turn step Read line ds taken turns turns' old mid new b left t.turned begins (λ same. same) (inr (quits_with step line ds taken turns turns' old mid new b t (quits refl)))
+ended_by step (Some OutputFailed) line ds taken turns turns' old mid new b left t begins none whole quits =
+    ended_turn step OutputFailed line ds taken turns turns' old mid new b left t.turned begins (λ same. same) (out_fails step line ds taken turns turns' old mid new b t)
+ended_by step (Some ErrorFailed) line ds taken turns turns' old mid new b left t begins none whole quits =
+    ended_turn step ErrorFailed line ds taken turns turns' old mid new b left t.turned begins (λ same. same) (err_fails step line ds taken turns turns' old mid new b t)
+ended_by {T = T} step (Some Starved) line ds taken turns turns' old mid new b left t begins none whole quits = record {
   mid = mid;
   scene = ap (λ (o : Objects T). o.scene) t.same;
   said_same = ap (λ (o : Objects T). o.said) t.same;
   err_same = ap (λ (o : Objects T). o.err_faults) t.same;
-  input_later = omega (arith, ap (λ (o : Objects T). o.input_faults) t.same);
+  input_calm = b.input_calm;
+  input = ap (λ (o : Objects T). o.input_faults) t.same ∙ b.input_calm;
   ds = ds;
   taken = taken;
   took = b.took ∙ ap (option_map (λ xs. taken ++ xs)) left;
   same = b.same ∙ sym (ap length t.kept);
   begins = none;
-  ran = subst (λ (ts : List Turn). RunsBy (Chain step) ds ts old mid) (sym t.kept) (runs_calm step ds turns old mid b.ran);
+  ran = subst (λ (ts : List Turn). Runs step ds ts old mid) (sym t.kept) b.ran;
   counted = subst (λ (ts : List Turn). Counted (faults_of old) ts (faults_of mid)) (sym t.kept) b.counted;
-  says = (b.out_calm, b.err_calm, subst (λ (ts : List Turn). mid.said ≡ and_then old.said (error_lines 1 ts)) (sym t.kept) b.said);
-  why = tt;
+  why = subst (λ (ts : List Turn). AllCalm ds ts old mid) (sym t.kept) (record { calm = b.calm; out = b.out_calm; err = b.err_calm; said = b.said });
 }
-ended_by step (Some InputFailed) line ds taken turns turns' old mid new b left t begins none all = absurd t
-ended_by step (Some TooLong) line ds taken turns turns' old mid new b left t begins none all = absurd t
+ended_by step (Some InputFailed) line ds taken turns turns' old mid new b left t begins none whole quits = absurd t
+ended_by step (Some TooLong) line ds taken turns turns' old mid new b left t begins none whole quits = absurd t
 
 -- ---- the end without one
 
+all_calm : {T : Type 0} (step : Command → Answered T → Type 0) (ready : View → T → Type 0) (r : Reading) (turns turns' : List Turn) (old mid : Objects T)
+    → (s : Standing step ready r turns old mid) → turns' ≡ turns → AllCalm s.ds turns' old mid
+all_calm step ready r turns turns' old mid s same =
+    subst (λ (ts : List Turn). AllCalm s.ds ts old mid) (sym same) (record { calm = s.calm; out = s.out_calm; err = s.err_calm; said = s.said })
+
 ended_none : {T : Type 0} (step : Command → Answered T → Type 0) (ready : View → T → Type 0) (ending : Ending) (r : Reading) (turns turns' : List Turn) (old mid new : Objects T) (got : List ℕ)
-    → (s : Standing step ready r turns old mid) → mid.left ≡ option_map (λ (xs : List ℕ). got ++ xs) new.left → mid.input_faults ≤ new.input_faults → Untouched turns turns' (reread mid new) new
-    → SaysFor ending turns' old mid → EndsFor ending s.ds (s.taken ++ got) mid new → Ended step ending turns' old new
-ended_none {T = T} step ready ending r turns turns' old mid new got s left later u says why = record {
+    → (s : Standing step ready r turns old mid) → mid.left ≡ option_map (λ (xs : List ℕ). got ++ xs) new.left → InputFor ending old.input_faults new.input_faults → Untouched turns turns' (reread mid new) new
+    → EndsFor ending s.ds (s.taken ++ got) turns' old mid new → Ended step ending turns' old new
+ended_none {T = T} step ready ending r turns turns' old mid new got s left input u why = record {
   mid = mid;
   scene = ap (λ (o : Objects T). o.scene) u.same;
   said_same = ap (λ (o : Objects T). o.said) u.same;
   err_same = ap (λ (o : Objects T). o.err_faults) u.same;
-  input_later = later;
+  input_calm = s.input_calm;
+  input = input;
   ds = s.ds;
   taken = s.taken ++ got;
   took = took_more old.left mid.left new.left s.taken got s.took left;
   same = s.same ∙ sym (ap length u.kept);
   begins = λ rest is. begins_none s.ds s.taken r.waiting got rest s.cut;
-  ran = subst (λ (ts : List Turn). RunsBy (Chain step) s.ds ts old mid) (sym u.kept) (runs_calm step s.ds turns old mid s.ran);
+  ran = subst (λ (ts : List Turn). Runs step s.ds ts old mid) (sym u.kept) s.ran;
   counted = subst (λ (ts : List Turn). Counted (faults_of old) ts (faults_of mid)) (sym u.kept) s.counted;
-  says = says;
   why = why;
 }
-
-said_so_far : {T : Type 0} (turns turns' : List Turn) (old mid : Objects T) → turns' ≡ turns → mid.said ≡ and_then old.said (error_lines 1 turns) → mid.said ≡ and_then old.said (error_lines 1 turns')
-said_so_far turns turns' old mid same said = subst (λ (ts : List Turn). mid.said ≡ and_then old.said (error_lines 1 ts)) (sym same) said
 
 at_end : (left : Option (List ℕ)) (rest : List ℕ) → IsAtEnd left → left ≡ Some rest → rest ≡ []
 at_end left rest e is =
@@ -243,9 +297,6 @@ at_end left rest e is =
     let both : Some rest ≡ Some none = sym is ∙ (e ∙ ap (option_map (λ (xs : List ℕ). none)) is) in cc
 
 -- ---- the next line
-
-none_some : (e : Ending) → None ≡ Some e → ⊥
-none_some e is = cc
 
 next_on : {T : Type 0} (step : Command → Answered T → Type 0) (ready : View → T → Type 0) (n : Result Next Ending) (turns turns' : List Turn) (a b : Lines) (old mid new : Objects T)
     → Standing step ready (reading a mid.left mid.input_faults) turns old mid → Gives n (reading a mid.left mid.input_faults) (reading b new.left new.input_faults)
@@ -276,15 +327,17 @@ fault_why : {T : Type 0} (step : Command → Answered T → Type 0) (ready : Vie
     → (s : Standing step ready (reading a mid.left mid.input_faults) turns old mid) → (g : Gives (Err e) (reading a mid.left mid.input_faults) (reading b new.left new.input_faults))
     → Untouched turns turns' (reread mid new) new → Ended step e turns' old new
 fault_why step ready InputFailed turns turns' a b old mid new s g u =
-    ended_none step ready InputFailed (reading a mid.left mid.input_faults) turns turns' old mid new g.got s g.takes.left g.is.2 u
-    (s.out_calm, s.err_calm, said_so_far turns turns' old mid u.kept s.said) (g.is.1, whole_front s.ds s.taken _ g.got s.cut g.is.0)
+    let r = reading a mid.left mid.input_faults in
+    ended_none step ready InputFailed r turns turns' old mid new g.got s g.takes.left (subst (λ (k : ℕ). FailsOnce k new.input_faults) s.input_calm g.is.1) u
+    (all_calm step ready r turns turns' old mid s u.kept, whole_front s.ds s.taken _ g.got s.cut g.is.0)
 fault_why step ready TooLong turns turns' a b old mid new s g u =
+    let r = reading a mid.left mid.input_faults in
     let many : length (s.taken ++ g.got) ≡ 2 ^ 32 = omega (arith, g.is.1, g.takes.taken, s.many, length-append s.taken g.got) in
-    ended_none step ready TooLong (reading a mid.left mid.input_faults) turns turns' old mid new g.got s g.takes.left (omega (arith, g.is.2)) u
-    (s.out_calm, s.err_calm, said_so_far turns turns' old mid u.kept s.said) (many, whole_front s.ds s.taken _ g.got s.cut g.is.0)
+    ended_none step ready TooLong r turns turns' old mid new g.got s g.takes.left (g.is.2 ∙ s.input_calm) u
+    (all_calm step ready r turns turns' old mid s u.kept, whole_front s.ds s.taken _ g.got s.cut g.is.0, many)
 fault_why step ready Starved turns turns' a b old mid new s g u =
-    ended_none step ready Starved (reading a mid.left mid.input_faults) turns turns' old mid new g.got s g.takes.left (omega (arith, g.is)) u
-    (s.out_calm, s.err_calm, said_so_far turns turns' old mid u.kept s.said) tt
+    let r = reading a mid.left mid.input_faults in
+    ended_none step ready Starved r turns turns' old mid new g.got s g.takes.left (g.is ∙ s.input_calm) u (all_calm step ready r turns turns' old mid s u.kept)
 fault_why step ready Read turns turns' a b old mid new s g u = absurd g.is
 fault_why step ready OutputFailed turns turns' a b old mid new s g u = absurd g.is
 fault_why step ready ErrorFailed turns turns' a b old mid new s g u = absurd g.is
@@ -295,6 +348,10 @@ last_all : {T : Type 0} (step : Command → Answered T → Type 0) (ready : View
 last_all step ready r line turns old mid new got s is plain some end rest left =
     ap (λ (bs : List ℕ). commands_of ((s.taken ++ got) ++ bs)) (at_end new.left rest end left) ∙ all_last s.ds s.taken r.waiting got line s.cut is plain some
 
+-- nothing is left
+nothing_left : (bytes : List ℕ) (ds : List Line) → commands_of (bytes ++ []) ≡ ds → commands_of bytes ≡ ds
+nothing_left bytes ds is = ap commands_of (sym (append-nil bytes)) ∙ is
+
 next_ends : {T : Type 0} (step : Command → Answered T → Type 0) (ready : View → T → Type 0) (n : Result Next Ending) (ending : Ending) (turns turns' : List Turn) (a b : Lines) (old mid new : Objects T)
     → Standing step ready (reading a mid.left mid.input_faults) turns old mid → Gives n (reading a mid.left mid.input_faults) (reading b new.left new.input_faults)
     → AfterNext step n (Some ending) turns turns' (reread mid new) new → Ended step ending turns' old new
@@ -304,7 +361,8 @@ next_ends step ready (Ok (next.Line line)) ending turns turns' a b old mid new s
     (before step ready r turns old mid new g.got s g.takes.left g.is.2) refl after
     (λ rest left. begins_line s.ds s.taken r.waiting g.got line.items (reading b new.left new.input_faults).waiting rest s.cut g.is.0 g.is.1)
     (λ rest left. begins_none s.ds s.taken r.waiting g.got rest s.cut)
-    (λ read rest left. all_quit s.ds s.taken r.waiting g.got line.items (reading b new.left new.input_faults).waiting rest s.cut g.is.0 g.is.1 (quit_of step (command_of_line line.items) ending turns turns' (reread mid new) new after read))
+    (λ none. absurd (none_some ending none))
+    (λ read rest left. all_quit s.ds s.taken r.waiting g.got line.items (reading b new.left new.input_faults).waiting rest s.cut g.is.0 g.is.1 (quit_of step (command_of_line line.items) ending turns turns' (reread mid new) new after (some_inside ending Read read)))
 next_ends step ready (Ok (next.Last line)) ending turns turns' a b old mid new s g after =
     let r = reading a mid.left mid.input_faults in
     let all = last_all step ready r line.items turns old mid new g.got s g.is.0 g.is.1 g.is.2 g.is.3 in
@@ -313,14 +371,18 @@ next_ends step ready (Ok (next.Last line)) ending turns turns' a b old mid new s
     (before step ready r turns old mid new g.got s g.takes.left g.is.4) refl after.1
     (λ rest left. ([], all rest left ∙ sym (append-nil (s.ds ++ command_of_line line.items ∷ []))))
     (λ rest left. begins_none s.ds s.taken r.waiting g.got rest s.cut)
+    (λ none. (g.is.3, nothing_left (s.taken ++ g.got) (s.ds ++ command_of_line line.items ∷ []) (all_last s.ds s.taken r.waiting g.got line.items s.cut g.is.0 g.is.1 g.is.2)))
     (λ read rest left. all rest left))
 next_ends step ready (Ok next.End) ending turns turns' a b old mid new s g after =
     let r = reading a mid.left mid.input_faults in
     let u = after.1 in
     subst (λ (e : Ending). Ended step e turns' old new) (sym (some_inside ending Read after.0))
-    (ended_none step ready Read r turns turns' old mid new g.got s g.takes.left (omega (arith, g.is.2)) u
-    (s.out_calm, s.err_calm, said_so_far turns turns' old mid u.kept s.said)
-    (λ rest left. ap (λ (bs : List ℕ). commands_of ((s.taken ++ g.got) ++ bs)) (at_end new.left rest g.is.1 left) ∙ all_end s.ds s.taken r.waiting g.got s.cut g.is.0))
+    (ended_none step ready Read r turns turns' old mid new g.got s g.takes.left (g.is.2 ∙ s.input_calm) u
+    (inl (record {
+      calm = all_calm step ready r turns turns' old mid s u.kept;
+      end = g.is.1;
+      all = nothing_left (s.taken ++ g.got) s.ds (all_end s.ds s.taken r.waiting g.got s.cut g.is.0);
+    })))
 next_ends step ready (Err e) ending turns turns' a b old mid new s g after =
     subst (λ (k : Ending). Ended step k turns' old new) (sym (some_inside ending e after.0))
     (fault_why step ready e turns turns' a b old mid new s g after.1)

@@ -1,8 +1,7 @@
 -- The answers of a session as those of an interpreter.
-use Rattle.std.proofs.Common.{◌≡◌, ◌≢◌, ◌⊎◌, inl, inr, ℕ, ◌≤◌, List, [], Option, Some, None, refl, sym, ap, subst, ◌∙◌, arith}
+use Rattle.std.proofs.Common.{◌≡◌, ◌⊎◌, ℕ, ◌≤◌, List, [], Option, Some, None, refl, sym, subst, arith}
 use Rattle.gd_base.specs.Causes.{Rose}
 use Rattle.gd_base.specs.Clocks.{Readings}
-use Rattle.gd_base.specs.declared.errors.DbError.{DbError}
 use Rattle.gd_base.specs.declared.errors.DbError.TheVariants.{ClockFault, VaultFault}
 use Rattle.gd_lang.specs.declared.commands.Command.{Command}
 use Rattle.gd_lang.specs.Limits as lang

@@ -1,5 +1,5 @@
 -- One line, and its turn.
-use Rattle.std.proofs.Common.{◌≡◌, ◌≢◌, ◌⊎◌, inl, inr, ℕ, ◌+◌, ◌≤◌, Bool, true, false, List, [], ◌∷◌, ◌++◌, length, Option, Some, None, Result, Ok, Err, is_ok, refl, sym, ap, subst, ◌∙◌, arith}
+use Rattle.std.proofs.Common.{◌≡◌, ◌≢◌, ◌⊎◌, inl, inr, ℕ, ◌+◌, ◌≤◌, Bool, true, false, List, [], ◌∷◌, ◌++◌, length, Option, Some, None, Result, Ok, Err, is_ok, sym, ap, subst, ◌∙◌, arith}
 use Rattle.std.proofs.Math.Seq.{take-length}
 use Rattle.gd_base.specs.Causes.{HasCause, Rose}
 use Rattle.gd_base.specs.Streams.{Puts, WritesFront, and_then}
@@ -9,8 +9,9 @@ use Rattle.gd_session.specs.declared.reply.Reply.TheVariants.{Done, Quit, Refuse
 use Rattle.gd_vault.specs.Views.{IsMoment}
 use Rattle.gd_script.specs.Answers.{Answered, AnswerCause, Counts, LineSteps, Text, counts_in}
 use Rattle.gd_script.specs.Lines.{Line, is_quit}
+use Rattle.gd_script.specs.Reading.{FailsOnce}
 use Rattle.gd_script.specs.Says.{error_line}
-use Rattle.gd_script.specs.Turns.{CalmTurned, EndIs, ErrTurned, IsCalmEnd, Objects, OutTurned, TurnEnds, Turned, faults_of, is_sink_fault}
+use Rattle.gd_script.specs.Turns.{CalmTurned, EndIs, IsCalmEnd, Objects, TurnEnds, Turned, faults_of, is_sink_fault}
 use Rattle.gd_script.specs.declared.answering.LineAnswer.{LineAnswer}
 use Rattle.gd_script.specs.declared.ending.Ending.{Ending}
 use Rattle.gd_script.specs.declared.ending.Ending.TheVariants.{Read, InputFailed, TooLong, OutputFailed, ErrorFailed, Starved}
@@ -31,9 +32,9 @@ calm_err : (before now : ℕ) (r : Result (Unit {0}) Failed) → is_ok r ≡ tru
 calm_err before now (Ok x) h c = c.answered
 calm_err before now (Err e) h c = cc
 
-rose_err : (before now : ℕ) (r : Result (Unit {0}) Failed) → is_ok r ≡ false → HasCause before now r → Rose before now
-rose_err before now (Ok x) h c = cc
-rose_err before now (Err e) h c = c.failed
+fails_err : (before now : ℕ) (r : Result (Unit {0}) Failed) → is_ok r ≡ false → HasCause before now r → FailsOnce before now
+fails_err before now (Ok x) h c = cc
+fails_err before now (Err e) h c = record { rose = c.failed; later = c.later; once = c.once }
 
 no_sink_fault : (x : given.Answer) → is_sink_fault x ≡ false → x ≢ answer.Command SinkFault
 no_sink_fault x h = λ is. let t : is_sink_fault x ≡ true = ap is_sink_fault is in let bad : true ≡ false = sym t ∙ h in cc
@@ -112,7 +113,7 @@ turn_ends step line (Some OutputFailed) x quits reading done faults turns turns'
 }
 turn_ends step line (Some ErrorFailed) x quits reading done faults turns turns' said old new before after e b a h = record {
   turned = turned step line x quits reading done faults turns turns' said old new h;
-  rose = rose_err old.err_faults new.err_faults said e h.cause;
+  fails = fails_err old.err_faults new.err_faults said e h.cause;
 }
 turn_ends step line (Some InputFailed) x quits reading done faults turns turns' said old new before after e b a h = absurd e
 turn_ends step line (Some TooLong) x quits reading done faults turns turns' said old new before after e b a h = absurd e

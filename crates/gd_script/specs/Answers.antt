@@ -1,5 +1,5 @@
 -- What an answer to a command, and to a line, is; T is what is seen of the interpreter.
-use Rattle.std.specs.Prelude.{◌≡◌, ◌⊎◌, ◌≤◌, ℕ, List, [], ◌∷◌, ◌++◌, Option, Some, None, Result, Ok, Err}
+use Rattle.std.specs.Prelude.{◌≡◌, ◌⊎◌, ◌≤◌, ℕ, List, [], ◌∷◌, ◌++◌, Option, Some, None, Ok, Err}
 use Rattle.gd_base.specs.Causes.{Rose}
 use Rattle.gd_base.specs.Clocks.{Readings}
 use Rattle.gd_base.specs.Streams.{and_then}

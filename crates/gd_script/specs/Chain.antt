@@ -1,11 +1,11 @@
 -- The turns of a run: each is a step from where the one before ended.
-use Rattle.std.specs.Prelude.{◌≡◌, ◌≢◌, ◌⊎◌, ◌≤◌, ℕ, List, [], ◌∷◌, ◌++◌, Option}
+use Rattle.std.specs.Prelude.{◌≡◌, ◌≢◌, ◌≤◌, ℕ, false, List, [], ◌∷◌, ◌++◌}
 use Rattle.gd_lang.specs.declared.commands.Command.{Command}
 use Rattle.gd_session.specs.declared.reply.Reply.{Reply}
 use Rattle.gd_session.specs.declared.reply.Reply.TheVariants.{SinkFault}
 use Rattle.gd_vault.specs.Content.{Content}
 use Rattle.gd_script.specs.Answers.{Answered, AnswerCause, Counts, LineAnswers, Text, given_in}
-use Rattle.gd_script.specs.Lines.{Line}
+use Rattle.gd_script.specs.Lines.{Line, is_quit}
 use Rattle.gd_script.specs.declared.turns.Answer.TheVariants as answer
 use Rattle.gd_script.specs.declared.turns.Faults.{Faults}
 use Rattle.gd_script.specs.declared.turns.Turn.{Turn}
@@ -60,30 +60,40 @@ pub record Link {T : Type 0} (step : Command → Answered T → Type 0) (was : �
   pub reading : m.readings ≡ n.readings ++ given_in t.reading
   pub answers : LineAnswers step line t.answer (answered_at was t n m reply text)
 
--- a turn in which the output or standard error failed is the last one
-pub record GoesOn {T : Type 0} (n mid : Now T) (t : Turn) (ts : List Turn) : Type 0 where
-  pub answered : t.answer ≡ answer.Command SinkFault → ts ≡ []
-  pub counted : (ts ≡ []) ⊎ ((mid.faults.out ≡ n.faults.out) × (mid.faults.err ≡ n.faults.err))
-
 -- turns, one a line; lines may be left
 unfoldable pub Chain : {T : Type 0} → (Command → Answered T → Type 0) → (ℕ → Content) → List Line → List Turn → Now T → Now T → Type 0
 Chain step was lines [] n m = m ≡ n
 Chain step was [] (t ∷ ts) n m = ⊥
-Chain {T = T} step was (line ∷ lines) (t ∷ ts) n m = (mid : Now T) × Link step was line t n mid × GoesOn n mid t ts × Chain step was lines ts mid m
-
--- neither the output nor standard error failed in a turn
-pub record IsCalm {T : Type 0} (n mid : Now T) (t : Turn) : Type 0 where
-  pub answered : t.answer ≢ answer.Command SinkFault
-  pub out : mid.faults.out ≡ n.faults.out
-  pub err : mid.faults.err ≡ n.faults.err
-
--- a chain behind which another turn may come
-unfoldable pub CalmChain : {T : Type 0} → (Command → Answered T → Type 0) → (ℕ → Content) → List Line → List Turn → Now T → Now T → Type 0
-CalmChain step was lines [] n m = m ≡ n
-CalmChain step was [] (t ∷ ts) n m = ⊥
-CalmChain {T = T} step was (line ∷ lines) (t ∷ ts) n m = (mid : Now T) × Link step was line t n mid × IsCalm n mid t × CalmChain step was lines ts mid m
+Chain {T = T} step was (line ∷ lines) (t ∷ ts) n m = (mid : Now T) × Link step was line t n mid × Chain step was lines ts mid m
 
 -- counts never fall from turn to turn, and a fault is answered only where its object's count rose; over every vault
 unfoldable pub Counted : Faults → List Turn → Faults → Type 0
 Counted f [] g = g ≡ f
 Counted f (t ∷ ts) g = NeverFall f t.faults × AnswerCause t.answer (counts_of f) (counts_of t.faults) × Counted t.faults ts g
+
+-- ---- behind which turns another one may come, over every vault
+
+-- the line is not that of `quit`, and neither the input, the output nor standard error failed in the turn
+pub record IsCalm (f : Faults) (line : Line) (t : Turn) : Type 0 where
+  pub goes_on : is_quit line ≡ false
+  pub answered : t.answer ≢ answer.Command SinkFault
+  pub input : t.faults.input ≡ f.input
+  pub out : t.faults.out ≡ f.out
+  pub err : t.faults.err ≡ f.err
+
+-- all turns are such ones, one a line
+unfoldable pub Calm : Faults → List Line → List Turn → Type 0
+Calm f [] [] = Unit {0}
+Calm f [] (t ∷ ts) = ⊥
+Calm f (line ∷ lines) [] = ⊥
+Calm f (line ∷ lines) (t ∷ ts) = IsCalm f line t × Calm t.faults lines ts
+
+-- all turns before the last one are such ones
+pub record LastTurn (f : Faults) (ds : List Line) (turns : List Turn) : Type 0 where
+  pub lines : List Line
+  pub line : Line
+  pub before : List Turn
+  pub turn : Turn
+  pub ds_is : ds ≡ lines ++ line ∷ []
+  pub turns_is : turns ≡ before ++ turn ∷ []
+  pub calm : Calm f lines before

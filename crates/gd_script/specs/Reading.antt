@@ -19,6 +19,12 @@ pub record Reading : Type 0 where
 abbrev pub reading : Lines → Option (List ℕ) → ℕ → Reading
 reading l left faults = record { waiting = drop l.at l.piece.items; taken = l.taken; left = left; faults = faults }
 
+-- one call failed: a count rose by one, up to its last value
+pub record FailsOnce (before now : ℕ) : Type 0 where
+  pub rose : Rose before now
+  pub later : before ≤ now
+  pub once : now ≤ before + 1
+
 -- the place lies in the piece, and no more was taken than may be
 pub record IsWithin (l : Lines) : Type 0 where
   pub place : l.at ≤ length l.piece.items
@@ -43,7 +49,7 @@ PartsFront false waiting waiting' line line' = (has_feed waiting ≡ false) × (
 abbrev pub Refills : Result Bool Ending → (old new : Reading) → Type 0
 Refills (Ok true) old new = Takes new.waiting old new × (0 < length new.waiting) × (new.faults ≡ old.faults)
 Refills (Ok false) old new = Takes [] old new × (new.waiting ≡ []) × IsAtEnd new.left × (new.faults ≡ old.faults)
-Refills (Err InputFailed) old new = Takes [] old new × Rose old.faults new.faults × (old.faults ≤ new.faults)
+Refills (Err InputFailed) old new = Takes [] old new × FailsOnce old.faults new.faults
 Refills (Err TooLong) old new = (new ≡ old) × (new.taken ≡ 2 ^ 32)
 Refills (Err ending) old new = ⊥
 
@@ -52,7 +58,7 @@ abbrev pub NextIs : Result Next Ending → List ℕ → (old new : Reading) → 
 NextIs (Ok (Line line)) got old new = (old.waiting ++ got ≡ line.items ++ 10 ∷ new.waiting) × (has_feed line.items ≡ false) × (new.faults ≡ old.faults)
 NextIs (Ok (Last line)) got old new = (old.waiting ++ got ≡ line.items) × (has_feed line.items ≡ false) × (0 < length line.items) × IsAtEnd new.left × (new.faults ≡ old.faults)
 NextIs (Ok End) got old new = (old.waiting ++ got ≡ []) × IsAtEnd new.left × (new.faults ≡ old.faults)
-NextIs (Err InputFailed) got old new = (has_feed (old.waiting ++ got) ≡ false) × Rose old.faults new.faults × (old.faults ≤ new.faults)
+NextIs (Err InputFailed) got old new = (has_feed (old.waiting ++ got) ≡ false) × FailsOnce old.faults new.faults
 NextIs (Err TooLong) got old new = (has_feed (old.waiting ++ got) ≡ false) × (new.taken ≡ 2 ^ 32) × (new.faults ≡ old.faults)
 NextIs (Err Starved) got old new = new.faults ≡ old.faults
 NextIs (Err ending) got old new = ⊥

@@ -1,19 +1,21 @@
 -- A run over the lines of a script.
-use Rattle.std.specs.Prelude.{◌≡◌, ◌≤◌, ◌+◌, ◌^◌, ℕ, List, [], ◌∷◌, ◌++◌, length, Option, Some, None, option_map, Result, Ok, Err}
+use Rattle.std.specs.Prelude.{◌≡◌, ◌⊎◌, ◌≤◌, ◌+◌, ◌^◌, ℕ, true, List, [], ◌++◌, length, Option, Some, option_map, Result, Ok, Err}
 use Rattle.gd_base.specs.Causes.{Rose}
-use Rattle.gd_base.specs.Streams.{WritesFront, and_then}
+use Rattle.gd_base.specs.Sources.{IsAtEnd}
+use Rattle.gd_base.specs.Streams.{and_then}
 use Rattle.gd_lang.specs.Commands.{command_of_line}
 use Rattle.gd_lang.specs.declared.commands.Command.{Command}
+use Rattle.gd_session.specs.Answers.{IsFront}
 use Rattle.gd_vault.specs.Content.{Content}
 use Rattle.gd_vault.specs.Events.{Event, moment_after}
 use Rattle.gd_vault.specs.History.{was}
 use Rattle.gd_vault.specs.Views.{View}
 use Rattle.gd_vault.specs.Views.Told.{Records}
 use Rattle.gd_script.specs.Answers.{Answered, GivesMore, Text}
-use Rattle.gd_script.specs.Chain.{CalmChain, Chain, Counted, Now}
-use Rattle.gd_script.specs.Lines.{Line, commands_of, whole_commands}
-use Rattle.gd_script.specs.Reading.{Gives, Reading, reading}
-use Rattle.gd_script.specs.Says.{error_lines}
+use Rattle.gd_script.specs.Chain.{Calm, Chain, Counted, LastTurn, Now}
+use Rattle.gd_script.specs.Lines.{Line, commands_of, is_quit, whole_commands}
+use Rattle.gd_script.specs.Reading.{FailsOnce, Gives, Reading, reading}
+use Rattle.gd_script.specs.Says.{error_line, error_lines}
 use Rattle.gd_script.specs.Turns.{Objects, TurnEnds, Untouched, faults_of, last_ending}
 use Rattle.gd_script.specs.declared.ending.Ending.{Ending}
 use Rattle.gd_script.specs.declared.ending.Ending.TheVariants.{Read, InputFailed, TooLong, OutputFailed, ErrorFailed, Starved}
@@ -34,23 +36,19 @@ now_of o es out readings = record {
   readings = readings;
 }
 
--- a relation of commands and turns by the contents at moments, from one state to another
-abbrev pub Linked : Type 0 → Type 1
-Linked T = (ℕ → Content) → List Line → List Turn → Now T → Now T → Type 0
-
 -- the turns are linked to the commands from the start to where the run stands; the history goes on
-pub record Ran {T : Type 0} (linked : Linked T) (ds : List Line) (turns : List Turn) (first : Content) (es : List Event) (old new : Objects T) : Type 0 where
+pub record Ran {T : Type 0} (step : Command → Answered T → Type 0) (ds : List Line) (turns : List Turn) (first : Content) (es : List Event) (old new : Objects T) : Type 0 where
   pub more : List Event
   pub told : new.scene.view.told ≡ Records first (more ++ es)
   pub out : Text
   pub written : new.scene.written ≡ and_then old.scene.written out
   pub readings : List ℕ
   pub clock : GivesMore old.scene.told new.scene.told readings
-  pub chain : linked (was first (more ++ es)) ds turns (now_of old es [] []) (now_of new (more ++ es) out readings)
+  pub chain : Chain step (was first (more ++ es)) ds turns (now_of old es [] []) (now_of new (more ++ es) out readings)
 
 -- where the history is told
-abbrev pub RunsBy : {T : Type 0} → Linked T → (ds : List Line) (turns : List Turn) (old new : Objects T) → Type 0
-RunsBy linked ds turns old new = (first : Content) (es : List Event) → old.scene.view.told ≡ Records first es → Ran linked ds turns first es old new
+abbrev pub Runs : {T : Type 0} → (Command → Answered T → Type 0) → (ds : List Line) (turns : List Turn) (old new : Objects T) → Type 0
+Runs step ds turns old new = (first : Content) (es : List Event) → old.scene.view.told ≡ Records first es → Ran step ds turns first es old new
 
 -- ---- the commands
 
@@ -70,8 +68,9 @@ pub record Standing {T : Type 0} (step : Command → Answered T → Type 0) (rea
   pub few : length turns + length r.waiting ≤ r.taken
   pub cut : Cut ds taken r.waiting
   pub same : length ds ≡ length turns
-  pub ran : RunsBy (CalmChain step) ds turns old new
+  pub ran : Runs step ds turns old new
   pub counted : Counted (faults_of old) turns (faults_of new)
+  pub calm : Calm (faults_of old) ds turns
   pub said : new.said ≡ and_then old.said (error_lines 1 turns)
   pub input_calm : new.input_faults ≡ old.input_faults
   pub out_calm : new.scene.out_faults ≡ old.scene.out_faults
@@ -101,20 +100,56 @@ pub record Nexts {T : Type 0} (step : Command → Answered T → Type 0) (end : 
 abbrev pub Begins : (all ds : List Line) → Type 0
 Begins all ds = (rest : List Line) × (all ≡ ds ++ rest)
 
--- why a run ended, and which commands it answered
-abbrev pub EndsFor : {T : Type 0} → Ending → (ds : List Line) (taken : List ℕ) (mid new : Objects T) → Type 0
-EndsFor Read ds taken mid new = (rest : List ℕ) → new.left ≡ Some rest → commands_of (taken ++ rest) ≡ ds
-EndsFor InputFailed ds taken mid new = Rose mid.input_faults new.input_faults × (whole_commands taken ≡ ds)
-EndsFor TooLong ds taken mid new = (length taken ≡ 2 ^ 32) × (whole_commands taken ≡ ds)
-EndsFor OutputFailed ds taken mid new = Unit {0}
-EndsFor ErrorFailed ds taken mid new = Unit {0}
-EndsFor Starved ds taken mid new = Unit {0}
+-- the count of the input: a failed read is not tried again
+abbrev pub InputFor : Ending → (before now : ℕ) → Type 0
+InputFor InputFailed before now = FailsOnce before now
+InputFor ending before now = now ≡ before
 
--- which of the output and standard error failed in the run, and what was said
-abbrev pub SaysFor : {T : Type 0} → Ending → List Turn → (old mid : Objects T) → Type 0
-SaysFor OutputFailed turns old mid = Rose old.scene.out_faults mid.scene.out_faults × (mid.err_faults ≡ old.err_faults) × (mid.said ≡ and_then old.said (error_lines 1 turns))
-SaysFor ErrorFailed turns old mid = Rose old.err_faults mid.err_faults × WritesFront old.said mid.said (error_lines 1 turns)
-SaysFor ending turns old mid = (mid.scene.out_faults ≡ old.scene.out_faults) × (mid.err_faults ≡ old.err_faults) × (mid.said ≡ and_then old.said (error_lines 1 turns))
+-- behind each turn another one might come, and its error line was said
+pub record AllCalm {T : Type 0} (ds : List Line) (turns : List Turn) (old mid : Objects T) : Type 0 where
+  pub calm : Calm (faults_of old) ds turns
+  pub out : mid.scene.out_faults ≡ old.scene.out_faults
+  pub err : mid.err_faults ≡ old.err_faults
+  pub said : mid.said ≡ and_then old.said (error_lines 1 turns)
+
+-- the input was read to its end
+pub record ReadsAll {T : Type 0} (ds : List Line) (taken : List ℕ) (turns : List Turn) (old mid new : Objects T) : Type 0 where
+  pub calm : AllCalm ds turns old mid
+  pub end : IsAtEnd new.left
+  pub all : commands_of taken ≡ ds
+
+-- the last line is that of `quit`: what stands behind it is not answered
+pub record Quits {T : Type 0} (ds : List Line) (taken : List ℕ) (turns : List Turn) (old mid new : Objects T) : Type 0 where
+  pub last : LastTurn (faults_of old) ds turns
+  pub quits : is_quit last.line ≡ true
+  pub out : mid.scene.out_faults ≡ old.scene.out_faults
+  pub err : mid.err_faults ≡ old.err_faults
+  pub said : mid.said ≡ and_then old.said (error_lines 1 turns)
+  pub all : (rest : List ℕ) → new.left ≡ Some rest → commands_of (taken ++ rest) ≡ ds
+
+-- the output failed in the last turn, whose error line was said too
+pub record OutFails {T : Type 0} (ds : List Line) (turns : List Turn) (old mid : Objects T) : Type 0 where
+  pub last : LastTurn (faults_of old) ds turns
+  pub rose : Rose old.scene.out_faults mid.scene.out_faults
+  pub err : mid.err_faults ≡ old.err_faults
+  pub said : mid.said ≡ and_then old.said (error_lines 1 turns)
+
+-- standard error failed once, in the error line of the last turn: a front of this line was said, and all lines before it
+pub record ErrFails {T : Type 0} (ds : List Line) (turns : List Turn) (old mid : Objects T) : Type 0 where
+  pub last : LastTurn (faults_of old) ds turns
+  pub fails : FailsOnce old.err_faults mid.err_faults
+  pub front : List ℕ
+  pub is_front : IsFront front (error_line (length last.before + 1) last.turn.answer)
+  pub said : mid.said ≡ and_then old.said (error_lines 1 last.before ++ front)
+
+-- why a run ended, and which commands it answered
+abbrev pub EndsFor : {T : Type 0} → Ending → (ds : List Line) (taken : List ℕ) (turns : List Turn) (old mid new : Objects T) → Type 0
+EndsFor Read ds taken turns old mid new = ReadsAll ds taken turns old mid new ⊎ Quits ds taken turns old mid new
+EndsFor InputFailed ds taken turns old mid new = AllCalm ds turns old mid × (whole_commands taken ≡ ds)
+EndsFor TooLong ds taken turns old mid new = AllCalm ds turns old mid × (whole_commands taken ≡ ds) × (length taken ≡ 2 ^ 32)
+EndsFor OutputFailed ds taken turns old mid new = OutFails ds turns old mid
+EndsFor ErrorFailed ds taken turns old mid new = ErrFails ds turns old mid
+EndsFor Starved ds taken turns old mid new = AllCalm ds turns old mid
 
 -- the turns of the commands, from the start to the end of the last turn; from there on the input alone was asked
 pub record Ended {T : Type 0} (step : Command → Answered T → Type 0) (ending : Ending) (turns : List Turn) (old new : Objects T) : Type 0 where
@@ -122,13 +157,13 @@ pub record Ended {T : Type 0} (step : Command → Answered T → Type 0) (ending
   pub scene : new.scene ≡ mid.scene
   pub said_same : new.said ≡ mid.said
   pub err_same : new.err_faults ≡ mid.err_faults
-  pub input_later : mid.input_faults ≤ new.input_faults
+  pub input_calm : mid.input_faults ≡ old.input_faults
+  pub input : InputFor ending old.input_faults new.input_faults
   pub ds : List Line
   pub taken : List ℕ
   pub took : old.left ≡ option_map (λ xs. taken ++ xs) new.left
   pub same : length ds ≡ length turns
   pub begins : (rest : List ℕ) → new.left ≡ Some rest → Begins (commands_of (taken ++ rest)) ds
-  pub ran : RunsBy (Chain step) ds turns old mid
+  pub ran : Runs step ds turns old mid
   pub counted : Counted (faults_of old) turns (faults_of mid)
-  pub says : SaysFor ending turns old mid
-  pub why : EndsFor ending ds taken mid new
+  pub why : EndsFor ending ds taken turns old mid new

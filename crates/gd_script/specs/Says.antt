@@ -4,7 +4,6 @@ use Rattle.std.specs.Fmt.{decimal}
 use Rattle.gd_base.specs.Errors.{error_text}
 use Rattle.gd_lang.specs.declared.errors.LangError.{LangError}
 use Rattle.gd_lang.specs.declared.errors.LangError.TheVariants as lang
-use Rattle.gd_session.specs.declared.reply.Reply.{Reply}
 use Rattle.gd_session.specs.declared.reply.Reply.TheVariants.{Refused, Typed}
 use Rattle.gd_types.specs.declared.errors.TypeError.{TypeError}
 use Rattle.gd_types.specs.declared.errors.TypeError.TheVariants as types

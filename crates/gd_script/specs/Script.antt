@@ -1,7 +1,6 @@
 -- The run of a script: its lines, the closing, what is said of its end, and the status.
 use Rattle.std.specs.Prelude.{◌≡◌, ◌≤◌, ◌||◌, ℕ, Bool, true, false, not, List, [], ◌∷◌, ◌++◌, codes, if◌then◌else◌, MatchBool}
 use Rattle.std.specs.List.{list_any}
-use Rattle.gd_base.specs.Causes.{Rose}
 use Rattle.gd_base.specs.Errors.{error_text}
 use Rattle.gd_base.specs.Streams.{WritesFront, and_then}
 use Rattle.gd_base.specs.declared.errors.DbError.{DbError}
@@ -10,6 +9,7 @@ use Rattle.gd_lang.specs.declared.commands.Command.{Command}
 use Rattle.gd_session.specs.declared.reply.Reply.{Reply}
 use Rattle.gd_session.specs.declared.reply.Reply.TheVariants.{Refused, SinkFault, Typed}
 use Rattle.gd_script.specs.Answers.{Answered, Closing}
+use Rattle.gd_script.specs.Reading.{FailsOnce}
 use Rattle.gd_script.specs.Run.{Ended}
 use Rattle.gd_script.specs.Turns.{Objects}
 use Rattle.gd_script.specs.declared.ending.Ending.{Ending}
@@ -103,6 +103,6 @@ pub record Scripted {T : Type 0} (step : Command → Answered T → Type 0) (clo
   pub input_faults : new.input_faults ≡ behind.input_faults
   pub says : MatchBool said
       ((new.said ≡ and_then behind.said (last_lines ending closing)) × (new.err_faults ≡ behind.err_faults))
-      (WritesFront behind.said new.said (last_lines ending closing) × Rose behind.err_faults new.err_faults)
+      (WritesFront behind.said new.said (last_lines ending closing) × FailsOnce behind.err_faults new.err_faults)
   pub err_later : behind.err_faults ≤ new.err_faults
   pub status_is : status ≡ status_of ending closing turns said

@@ -8,13 +8,14 @@ use Rattle.gd_lang.specs.declared.commands.Command.{Command}
 use Rattle.gd_lang.specs.declared.errors.LangError.{LangError}
 use Rattle.gd_lang.specs.declared.errors.LangError.TheVariants as lang
 use Rattle.gd_session.specs.declared.reply.Reply.TheVariants.{SinkFault}
-use Rattle.gd_vault.specs.Views.{IsMoment, View}
+use Rattle.gd_vault.specs.Views.{IsMoment}
 use Rattle.gd_script.specs.Answers.{Answered, LineSteps, Scene, Text}
 use Rattle.gd_script.specs.Lines.{Line, is_quit}
+use Rattle.gd_script.specs.Reading.{FailsOnce}
 use Rattle.gd_script.specs.Says.{error_line}
 use Rattle.gd_script.specs.declared.answering.LineAnswer.{LineAnswer}
 use Rattle.gd_script.specs.declared.ending.Ending.{Ending}
-use Rattle.gd_script.specs.declared.ending.Ending.TheVariants.{Read, InputFailed, TooLong, OutputFailed, ErrorFailed, Starved}
+use Rattle.gd_script.specs.declared.ending.Ending.TheVariants.{Read, OutputFailed, ErrorFailed, Starved}
 use Rattle.gd_script.specs.declared.turns.Answer as given
 use Rattle.gd_script.specs.declared.turns.Answer.TheVariants as answer
 use Rattle.gd_script.specs.declared.turns.Faults.{Faults}
@@ -66,10 +67,10 @@ pub record OutTurned {T : Type 0} (step : Command → Answered T → Type 0) (li
   pub err : new.err_faults ≡ old.err_faults
   pub said : new.said ≡ and_then old.said (error_line (length turns + 1) turned.turn.answer)
 
--- a turn more, in which standard error failed
+-- a turn more, in which standard error failed once
 pub record ErrTurned {T : Type 0} (step : Command → Answered T → Type 0) (line : Line) (turns turns' : List Turn) (old new : Objects T) : Type 0 where
   pub turned : Turned step line turns turns' old new
-  pub rose : Rose old.err_faults new.err_faults
+  pub fails : FailsOnce old.err_faults new.err_faults
 
 -- nothing happened
 pub record Untouched {T : Type 0} (turns turns' : List Turn) (old new : Objects T) : Type 0 where

@@ -1,4 +1,3 @@
-use Rattle.std.proofs.Common.{refl, ap}
 use Rattle.gd_script.specs.Answers.{scene}
 use Rattle.gd_script.specs.Reading.{reading}
 use Rattle.gd_script.specs.Turns.{objects}

@@ -1,4 +1,3 @@
-use Rattle.std.proofs.Common.{refl, sym, ◌∙◌, ap}
 use Rattle.gd_script.specs.Answers.{scene}
 use Rattle.gd_script.specs.Turns.{objects}
 use Rattle.gd_script.proofs.Running.{nexts_starved}
