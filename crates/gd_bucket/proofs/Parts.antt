@@ -3,18 +3,19 @@ use Rattle.std.proofs.Common.{◌≡◌, ℕ, zero, suc, ◌+◌, ◌-◌, ◌/�
 use Rattle.std.proofs.lemmas.Bool.Decides.{nat_tests}
 use Rattle.std.proofs.lemmas.List.{length-replicate}
 use Rattle.std.proofs.Math.ListN.{length-set}
+use Rattle.gd_format.specs.declared.Extent.{Extent}
 use Rattle.gd_format.specs.declared.Slot.{Slot}
 use Rattle.gd_format.specs.declared.Slot.TheVariants.{Empty, Full}
 use Rattle.gd_format.specs.Bucket.{Bucket}
 use Rattle.gd_format.specs.Slots.{count, is_full, AreReached, SameSlots, is_astray}
-use Rattle.gd_bucket.specs.Splitting.{IsHalf, IsSplit}
+use Rattle.gd_bucket.specs.Splitting.{AreHalves, IsEmptyHalf, IsHalf}
 
 -- the slots that were seen stand in the two buckets
-pub record IsParted (old first second : Bucket) (seen : List Slot) : Type 0 where
+pub record IsParted (old first second : Bucket) (seen : List Slot) (one two : List Extent) : Type 0 where
   pub low : IsHalf old first 0
   pub high : IsHalf old second 1
-  pub free : first.free ≡ old.free
-  pub none : second.free ≡ []
+  pub free : first.free ≡ one
+  pub loose : second.free ≡ two
   pub slots : SameSlots seen (first.slots ++ second.slots)
 
 bit_sides : (x : ℕ) → not (eqb (x % 2) 0) ≡ true → not (eqb (x % 2) 1) ≡ false
@@ -58,18 +59,18 @@ empty_half old half side bits is =
       reached = subst (λ (xs : List Slot). AreReached xs (length xs)) (sym is) (empty_reached (length old.slots) (length (replicate (length old.slots) Empty)));
     }
 
-pub begins : (old first second : Bucket) → first ≡ record { bits = old.bits + 1; free = old.free; slots = replicate (length old.slots) Empty } → second ≡ record { bits = old.bits + 1; free = []; slots = replicate (length old.slots) Empty } → IsParted old first second []
-begins old first second f g =
+pub begins : (old first second : Bucket) (one two : List Extent) → IsEmptyHalf old first → IsEmptyHalf old second → first.free ≡ one → second.free ≡ two → IsParted old first second [] one two
+begins old first second one two f g free loose =
     record {
-      low = empty_half old first 0 (ap (λ (b : Bucket). b.bits) f) (ap (λ (b : Bucket). b.slots) f);
-      high = empty_half old second 1 (ap (λ (b : Bucket). b.bits) g) (ap (λ (b : Bucket). b.slots) g);
-      free = ap (λ (b : Bucket). b.free) f;
-      none = ap (λ (b : Bucket). b.free) g;
+      low = empty_half old first 0 f.bits f.slots;
+      high = empty_half old second 1 g.bits g.slots;
+      free = free;
+      loose = loose;
       slots =
           λ p e.
           let a = count-append p first.slots second.slots in
-          let x = ap (λ (b : Bucket). count p b.slots) f ∙ count-empty p (length old.slots) e in
-          let y = ap (λ (b : Bucket). count p b.slots) g ∙ count-empty p (length old.slots) e in
+          let x = ap (count p) f.slots ∙ count-empty p (length old.slots) e in
+          let y = ap (count p) g.slots ∙ count-empty p (length old.slots) e in
           omega (arith, a, x, y);
     }
 
@@ -86,15 +87,15 @@ half_grows old half half' side place slot h straight is same reached =
       reached = reached;
     }
 
-module _ (old first second : Bucket) (seen : List Slot) (slot : Slot) (parted : IsParted old first second seen) where
+module _ (old first second : Bucket) (seen : List Slot) (slot : Slot) (one two : List Extent) (parted : IsParted old first second seen one two) where
   -- an empty slot
-  pub passes : is_full slot ≡ false → IsParted old first second (seen ++ slot ∷ [])
+  pub passes : is_full slot ≡ false → IsParted old first second (seen ++ slot ∷ []) one two
   passes empty =
       record {
         low = parted.low;
         high = parted.high;
         free = parted.free;
-        none = parted.none;
+        loose = parted.loose;
         slots =
             λ p e.
             let a = count-append p seen (slot ∷ []) in
@@ -104,13 +105,13 @@ module _ (old first second : Bucket) (seen : List Slot) (slot : Slot) (parted : 
             omega (arith, b, s);
       }
 
-  pub to_first : (first' : Bucket) (place : ℕ) → is_astray old.bits 0 slot ≡ false → first' ≡ record first { slots = set first.slots place slot } → SameSlots first'.slots (slot ∷ first.slots) → AreReached first'.slots (length first'.slots) → IsParted old first' second (seen ++ slot ∷ [])
+  pub to_first : (first' : Bucket) (place : ℕ) → is_astray old.bits 0 slot ≡ false → first' ≡ record first { slots = set first.slots place slot } → SameSlots first'.slots (slot ∷ first.slots) → AreReached first'.slots (length first'.slots) → IsParted old first' second (seen ++ slot ∷ []) one two
   to_first first' place straight is same reached =
       record {
         low = half_grows old first first' 0 place slot parted.low straight is same reached;
         high = parted.high;
         free = ap (λ (x : Bucket). x.free) is ∙ parted.free;
-        none = parted.none;
+        loose = parted.loose;
         slots =
             λ p e.
             let a = count-append p seen (slot ∷ []) in
@@ -121,13 +122,13 @@ module _ (old first second : Bucket) (seen : List Slot) (slot : Slot) (parted : 
             omega (arith, a, b, c, s, m);
       }
 
-  pub to_second : (second' : Bucket) (place : ℕ) → is_astray old.bits 1 slot ≡ false → second' ≡ record second { slots = set second.slots place slot } → SameSlots second'.slots (slot ∷ second.slots) → AreReached second'.slots (length second'.slots) → IsParted old first second' (seen ++ slot ∷ [])
+  pub to_second : (second' : Bucket) (place : ℕ) → is_astray old.bits 1 slot ≡ false → second' ≡ record second { slots = set second.slots place slot } → SameSlots second'.slots (slot ∷ second.slots) → AreReached second'.slots (length second'.slots) → IsParted old first second' (seen ++ slot ∷ []) one two
   to_second second' place straight is same reached =
       record {
         low = parted.low;
         high = half_grows old second second' 1 place slot parted.high straight is same reached;
         free = parted.free;
-        none = ap (λ (x : Bucket). x.free) is ∙ parted.none;
+        loose = ap (λ (x : Bucket). x.free) is ∙ parted.loose;
         slots =
             λ p e.
             let a = count-append p seen (slot ∷ []) in
@@ -156,5 +157,5 @@ pub other_side : (bits : ℕ) (slot : Slot) → is_astray bits 0 slot ≡ true �
 other_side bits Empty e = refl
 other_side bits (Full hash start at k v) e = bit_sides (hash / 2 ^ (31 - (bits + 1))) e
 
-pub splits : (old first second : Bucket) → IsParted old first second old.slots → IsSplit old first second
-splits old first second parted = record { low = parted.low; high = parted.high; free = parted.free; none = parted.none; slots = parted.slots }
+pub splits : (old first second : Bucket) (one two : List Extent) → IsParted old first second old.slots one two → AreHalves old first second
+splits old first second one two parted = record { low = parted.low; high = parted.high; slots = parted.slots }

@@ -13,4 +13,4 @@ mod tests;
 pub use crate::laws::{look_up_by_candidates, map_by_slots, slot_replaced};
 pub use crate::probing::{find, insert_slot};
 pub use crate::removing::remove_slot;
-pub use crate::splitting::split;
+pub use crate::splitting::{divide, split};

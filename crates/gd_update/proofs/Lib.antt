@@ -11,7 +11,6 @@ pub mod Gone
 mod Pools
 mod SplitParts
 mod DoubleParts
-mod Parts
 mod Takes
 mod Numbers
 mod Entries

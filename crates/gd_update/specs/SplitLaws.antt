@@ -20,7 +20,7 @@ use Rattle.gd_space.specs.Calls.{free_lists}
 use Rattle.gd_space.specs.Effect.{Change, Given}
 use Rattle.gd_update.specs.Held.{IsHeld, IsBucketOf, lost_in}
 use Rattle.gd_open.specs.Spells.{SpellsBucket}
-use Rattle.gd_update.specs.Halves.{AreHalves}
+use Rattle.gd_bucket.specs.Splitting.{AreHalves}
 use Rattle.gd_update.specs.Runs.{IsPointed, IsDoubled}
 use Rattle.gd_update.specs.Steps.{IsStep, IsNext}
 

@@ -5,6 +5,7 @@
 ghost use Rattle.std.specs.Prelude.{◌≡◌, ◌≢◌, ◌+◌, ◌-◌, ◌*◌, ◌/◌, ◌%◌, ◌^◌, ◌<◌, ◌≤◌, [], true, false, Some, length, IfOk, IfErr, OnOk, OnErr};
 ghost use Rattle.gd_base.specs.Causes.{Rose};
 ghost use Rattle.gd_base.specs.declared.errors.DbError.TheVariants as db;
+ghost use Rattle.gd_bucket.specs.Splitting.{AreHalves, IsEmptyHalf};
 ghost use Rattle.gd_format.specs.HeaderFault.{dir_size_of};
 ghost use Rattle.gd_format.specs.Slots.{count, is_full};
 ghost use Rattle.gd_map_laws.specs.Overflow.{is_close};
@@ -13,7 +14,7 @@ ghost use Rattle.gd_open.specs.Open.{IsFit};
 ghost use Rattle.gd_space.specs.Effect.{WritesAtMost, TellsNone};
 ghost use Rattle.gd_update.specs.Growth.{Closes, DivisionWrites, IsDivided, IsGrown, IsRoomMade, IsWide, IsWider, run_size};
 ghost use Rattle.gd_update.specs.GrowthRefusals.{is_growth_error};
-ghost use Rattle.gd_update.specs.Halves.{AreHalves, IsEmptyHalf, next_bit};
+ghost use Rattle.gd_update.specs.Halves.{next_bit};
 ghost use Rattle.gd_update.specs.Held.{Holds, IsBucketOf, HasBucket};
 ghost use Rattle.gd_update.specs.Open.{IsOpen};
 ghost use Rattle.gd_update.specs.Steps.{Steps, IsNext, KeepsBuckets};

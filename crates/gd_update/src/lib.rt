@@ -15,7 +15,6 @@ mod errors;
 mod growing;
 #[cfg(test)]
 mod growing_tests;
-mod halves;
 mod last;
 mod laws;
 mod pages;

@@ -3,8 +3,8 @@
 ghost use Rattle.std.specs.Prelude.{◌≡◌, ◌<◌, length};
 ghost use Rattle.gd_layout.specs.Fits.{FitsFields};
 
-use crate::halves::part;
 use crate::pages::{double_entries, fill_page};
+use gd_bucket::divide;
 use gd_layout::{Bucket, Extent, Native, Slot, full_count};
 use std::process::Abort;
 use std::test::Fail;
@@ -61,7 +61,7 @@ fn slots_part_by_the_next_bit(rt: HostRuntime) -> Result<(), Fail> {
     bucket.put_slot(3, slot_of(0x1000_0000));
     bucket.put_slot(4, slot_of(0x3000_0000));
     bucket.put_slot(5, slot_of(0x2fff_ffff));
-    part(&bucket, &mut first, &mut second);
+    divide(&bucket, &mut first, &mut second);
     assert!(rt; full_count(first.slots()) == 1 && full_count(second.slots()) == 2);
     assert!(rt; first.free() == bucket.free() && second.free().len() == 1);
     Ok(())

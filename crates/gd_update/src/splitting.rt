@@ -2,10 +2,11 @@
 
 ghost use Rattle.std.specs.Prelude.{◌≡◌, ◌≢◌, ◌+◌, ◌-◌, ◌*◌, ◌/◌, ◌^◌, ◌<◌, ◌≤◌, ℕ, [], length, IfOk, IfErr, OnOk, OnErr};
 ghost use Rattle.gd_base.specs.Causes.{Rose};
+ghost use Rattle.gd_bucket.specs.Splitting.{AreHalves, IsEmptyHalf};
 ghost use Rattle.gd_open.specs.Open.{IsFit};
 ghost use Rattle.gd_space.specs.Effect.{WritesAtMost, TellsNone};
 ghost use Rattle.gd_update.specs.Held.{Holds, HasBucket};
-ghost use Rattle.gd_update.specs.Halves.{AreHalves, IsEmptyHalf, next_bit};
+ghost use Rattle.gd_update.specs.Halves.{next_bit};
 ghost use Rattle.gd_update.specs.SplitLaws.{half_of, half_start};
 ghost use Rattle.gd_update.specs.Steps.{Steps, IsNext};
 ghost use Rattle.gd_update.specs.declared.errors.UpdateError.TheVariants.{VaultFault, BadDirEntry};
@@ -13,9 +14,9 @@ ghost use Rattle.gd_vault.specs.Views.{HasFile};
 ghost use Rattle.gd_vault.specs.Streams.{OnlyWrites};
 
 use crate::errors::UpdateError;
-use crate::halves::part;
 use crate::rooms::take_room;
 use crate::runs::point_run;
+use gd_bucket::divide;
 use gd_format::Header;
 use gd_layout::Bucket;
 use gd_open::OpenFile;
@@ -94,7 +95,7 @@ pub fn split_once<V: Vault>(
     let half = half_entries(&header, bits);
     let start = start_of(&header, hash, bits);
     let other = take_room(file, vault, second, header.block)?;
-    part(bucket, first, second);
+    divide(bucket, first, second);
     file.write_bucket(vault, other, second)?;
     file.write_bucket(vault, at, first)?;
     point_run(file, vault, header.dir + 8 * start, half, other)?;

@@ -30,10 +30,10 @@ write_bucket-requires-clause-place g c = λ k told y there.
     omega (arith, e, bound, room, size)
 
 pub write_bucket-requires-clause-elems : goal.write_bucket-requires-clause-elems
-write_bucket-requires-clause-elems g c = c.part.ensures.halves.high.elems ∙ c.requires.elems ∙ sym (ap (λ (z : Header). z.elems) c.in_ok-other.ensures.header)
+write_bucket-requires-clause-elems g c = c.divide.ensures.halves.high.elems ∙ c.requires.elems ∙ sym (ap (λ (z : Header). z.elems) c.in_ok-other.ensures.header)
 
 pub write_bucket-requires-2-clause-elems : goal.write_bucket-requires-2-clause-elems
-write_bucket-requires-2-clause-elems g c = c.part.ensures.halves.low.elems ∙ c.requires.elems ∙ sym (ap (λ (z : Header). z.elems) c.in_ok-other.ensures.header) ∙ sym (ap (λ (q : OpenParts). q.header.elems) c.in_ok-write_bucket.ensures.same)
+write_bucket-requires-2-clause-elems g c = c.divide.ensures.halves.low.elems ∙ c.requires.elems ∙ sym (ap (λ (z : Header). z.elems) c.in_ok-other.ensures.header) ∙ sym (ap (λ (q : OpenParts). q.header.elems) c.in_ok-write_bucket.ensures.same)
 
 pub write_bucket-requires-2-clause-place : goal.write_bucket-requires-2-clause-place
 write_bucket-requires-2-clause-place g c = λ k told y there.
@@ -72,7 +72,7 @@ returns-clause-steps g c =
     let same : c.write_bucket-2.new.self ≡ record c.take_room.new.file { block = c.write_bucket-2.new.self.block } = c.in_ok-write_bucket-2.ensures.same ∙ ap (λ (q : OpenParts). record q { block = c.write_bucket-2.new.self.block }) c.in_ok-write_bucket.ensures.same in
     let hd = c.header.ensures.is in
     let size = ap (λ (z : Header). z.block) hd in
-    subst (λ (q : OpenParts). Steps (g.V.Vault.view_of c.args.vault.now) (g.V.Vault.view_of c.point_run.new.vault) c.args.file.now.id c.args.file.now.header q.header c.args.file.now.table.next_block q.table.next_block c.args.file.now.table.extents c.args.second.now.free q.table.extents [] 32 (λ bytes. IsNext bytes q.header c.args.hash c.args.at c.in_ok-other.other c.args.bucket.now.bits c.part.new.first c.part.new.second)) (sym same)
+    subst (λ (q : OpenParts). Steps (g.V.Vault.view_of c.args.vault.now) (g.V.Vault.view_of c.point_run.new.vault) c.args.file.now.id c.args.file.now.header q.header c.args.file.now.table.next_block q.table.next_block c.args.file.now.table.extents c.args.second.now.free q.table.extents [] 32 (λ bytes. IsNext bytes q.header c.args.hash c.args.at c.in_ok-other.other c.args.bucket.now.bits c.divide.new.first c.divide.new.second)) (sym same)
     (λ k x blocks told there held.
     let a = c.in_ok-other.ensures.done k x blocks told there held.side in
     let t = becomes_law (g.V.Vault.view_of c.take_room.new.vault) (g.V.Vault.view_of c.write_bucket.new.vault) c.args.file.now.id c.in_ok-other.other c.write_bucket.new.self.block (becomes_for (g.V.Vault.view_of c.take_room.new.vault) (g.V.Vault.view_of c.write_bucket.new.vault) (λ xs ys. ys ≡ vault.written xs c.in_ok-other.other c.write_bucket.new.self.block) id c.in_ok-write_bucket.ensures.becomes) a.content a.file a.told a.there in
@@ -91,7 +91,7 @@ returns-clause-steps g c =
     let two : length c.write_bucket.new.self.block ≡ c.args.file.now.header.block = c.in_ok-write_bucket.ensures.fit.block_size ∙ ap (λ (q : OpenParts). q.header.block) c.in_ok-write_bucket.ensures.same ∙ ap (λ (z : Header). z.block) c.in_ok-other.ensures.header in
     let one : length c.write_bucket-2.new.self.block ≡ c.args.file.now.header.block = c.in_ok-write_bucket-2.ensures.fit.block_size ∙ ap (λ (q : OpenParts). q.header.block) same ∙ ap (λ (z : Header). z.block) c.in_ok-other.ensures.header in
     let made : SplitMade x.bytes a.file.bytes p.file.bytes c.args.file.now.header c.take_room.new.file.header c.args.file.now.table.next_block c.take_room.new.file.table.next_block (free_lists c.args.file.now.table.extents blocks c.args.second.now.free)
-    (free_lists c.take_room.new.file.table.extents a.blocks c.take_room.new.loose.free) c.args.hash c.args.at c.in_ok-other.other c.args.bucket.now c.part.new.first c.part.new.second c.write_bucket-2.new.self.block c.write_bucket.new.self.block =
+    (free_lists c.take_room.new.file.table.extents a.blocks c.take_room.new.loose.free) c.args.hash c.args.at c.in_ok-other.other c.args.bucket.now c.divide.new.first c.divide.new.second c.write_bucket-2.new.self.block c.write_bucket.new.self.block =
     record {
       held = held;
       bucket_is = c.requires.bucket k x told there;
@@ -99,16 +99,16 @@ returns-clause-steps g c =
       less = c.requires.bits;
       taken = rw size at a.change;
       header = c.in_ok-other.ensures.header;
-      halves = c.part.ensures.halves;
+      halves = c.divide.ensures.halves;
       elems = c.requires.elems;
       sizes = (one, two);
       spells = (c.write_bucket-2.ensures.spells, c.write_bucket.ensures.spells);
-      first_free = c.part.ensures.first_free;
-      second_free = c.part.ensures.second_free;
+      first_free = c.divide.ensures.first_free;
+      second_free = c.divide.ensures.second_free;
       run = run;
     } in
     let gives = split_gives x.bytes a.file.bytes p.file.bytes c.args.file.now.header c.take_room.new.file.header c.args.file.now.table.next_block c.take_room.new.file.table.next_block (free_lists c.args.file.now.table.extents blocks c.args.second.now.free)
-    (free_lists c.take_room.new.file.table.extents a.blocks c.take_room.new.loose.free) c.args.hash c.args.at c.in_ok-other.other c.args.bucket.now c.part.new.first c.part.new.second c.write_bucket-2.new.self.block c.write_bucket.new.self.block least made in
+    (free_lists c.take_room.new.file.table.extents a.blocks c.take_room.new.loose.free) c.args.hash c.args.at c.in_ok-other.other c.args.bucket.now c.divide.new.first c.divide.new.second c.write_bucket-2.new.self.block c.write_bucket.new.self.block least made in
     record { content = p.content; file = p.file; blocks = a.blocks; told = p.told; there = p.there; step = gives.step; buckets = gives.next })
 
 pub returns-clause-holds : goal.returns-clause-holds
@@ -118,7 +118,7 @@ returns-clause-holds g c =
     let id3 = ap (λ (q : OpenParts). q.id) c.in_ok-write_bucket-2.ensures.same ∙ id2 in
     let frame = (writes_trans (writes_trans (writes_trans c.take_room.ensures.frame (writes_for id c.write_bucket.ensures.frame)) (writes_for id2 c.write_bucket-2.ensures.frame)) (writes_for id3 c.point_run.ensures.frame)).within in
     holds_after (g.V.Vault.view_of c.args.vault.now) (g.V.Vault.view_of c.point_run.new.vault) c.args.file.now.id c.args.file.now.header c.write_bucket-2.new.self.header c.args.file.now.table.next_block c.write_bucket-2.new.self.table.next_block c.args.file.now.table.extents c.args.second.now.free c.write_bucket-2.new.self.table.extents [] 32
-    (λ file. IsNext file c.write_bucket-2.new.self.header c.args.hash c.args.at c.in_ok-other.other c.args.bucket.now.bits c.part.new.first c.part.new.second) frame c.requires.file c.requires.holds (returns-clause-steps g c)
+    (λ file. IsNext file c.write_bucket-2.new.self.header c.args.hash c.args.at c.in_ok-other.other c.args.bucket.now.bits c.divide.new.first c.divide.new.second) frame c.requires.file c.requires.holds (returns-clause-steps g c)
 
 pub returns-clause-low_bucket : goal.returns-clause-low_bucket
 returns-clause-low_bucket g c = λ side k y told there.
@@ -127,7 +127,7 @@ returns-clause-low_bucket g c = λ side k y told there.
     let id3 = ap (λ (q : OpenParts). q.id) c.in_ok-write_bucket-2.ensures.same ∙ id2 in
     let frame = (writes_trans (writes_trans (writes_trans c.take_room.ensures.frame (writes_for id c.write_bucket.ensures.frame)) (writes_for id2 c.write_bucket-2.ensures.frame)) (writes_for id3 c.point_run.ensures.frame)).within in
     (buckets_after (g.V.Vault.view_of c.args.vault.now) (g.V.Vault.view_of c.point_run.new.vault) c.args.file.now.id c.args.file.now.header c.write_bucket-2.new.self.header c.args.file.now.table.next_block c.write_bucket-2.new.self.table.next_block c.args.file.now.table.extents c.args.second.now.free c.write_bucket-2.new.self.table.extents [] 32
-    (λ file. IsNext file c.write_bucket-2.new.self.header c.args.hash c.args.at c.in_ok-other.other c.args.bucket.now.bits c.part.new.first c.part.new.second) frame c.requires.file c.requires.holds (returns-clause-steps g c) k y told there).low side
+    (λ file. IsNext file c.write_bucket-2.new.self.header c.args.hash c.args.at c.in_ok-other.other c.args.bucket.now.bits c.divide.new.first c.divide.new.second) frame c.requires.file c.requires.holds (returns-clause-steps g c) k y told there).low side
 
 pub returns-clause-high_bucket : goal.returns-clause-high_bucket
 returns-clause-high_bucket g c = λ side k y told there.
@@ -136,7 +136,7 @@ returns-clause-high_bucket g c = λ side k y told there.
     let id3 = ap (λ (q : OpenParts). q.id) c.in_ok-write_bucket-2.ensures.same ∙ id2 in
     let frame = (writes_trans (writes_trans (writes_trans c.take_room.ensures.frame (writes_for id c.write_bucket.ensures.frame)) (writes_for id2 c.write_bucket-2.ensures.frame)) (writes_for id3 c.point_run.ensures.frame)).within in
     (buckets_after (g.V.Vault.view_of c.args.vault.now) (g.V.Vault.view_of c.point_run.new.vault) c.args.file.now.id c.args.file.now.header c.write_bucket-2.new.self.header c.args.file.now.table.next_block c.write_bucket-2.new.self.table.next_block c.args.file.now.table.extents c.args.second.now.free c.write_bucket-2.new.self.table.extents [] 32
-    (λ file. IsNext file c.write_bucket-2.new.self.header c.args.hash c.args.at c.in_ok-other.other c.args.bucket.now.bits c.part.new.first c.part.new.second) frame c.requires.file c.requires.holds (returns-clause-steps g c) k y told there).high side
+    (λ file. IsNext file c.write_bucket-2.new.self.header c.args.hash c.args.at c.in_ok-other.other c.args.bucket.now.bits c.divide.new.first c.divide.new.second) frame c.requires.file c.requires.holds (returns-clause-steps g c) k y told there).high side
 
 pub returns-in_err-write_bucket-clause-frame : goal.returns-in_err-write_bucket-clause-frame
 returns-in_err-write_bucket-clause-frame g c = writes_trans c.take_room.ensures.frame (writes_for c.take_room.ensures.id c.write_bucket.ensures.frame)
