@@ -11,7 +11,7 @@ use Rattle.gd_lang.specs.declared.errors.LangError.TheVariants as lang
 use Rattle.gd_session.specs.declared.reply.Reply.{Reply}
 use Rattle.gd_session.specs.declared.reply.Reply.TheVariants.{Done}
 use Rattle.gd_vault.proofs.Within.{within_refl}
-use Rattle.gd_script.specs.Answers.{Answered, AnswerCause, LineAnswers, LineSteps, Scene, Steps, answered_in, counts_in}
+use Rattle.gd_script.specs.Answers.{Answered, AnswerCause, Fits, LineAnswers, LineSteps, Rules, Scene, Steps, answered_in, counts_in}
 use Rattle.gd_script.specs.Lines.{Line, is_quit}
 use Rattle.gd_script.specs.Turns.{LineEnds, RefusedLine}
 use Rattle.gd_script.specs.declared.answering.LineAnswer.{LineAnswer}
@@ -38,61 +38,68 @@ due_is lang.Escape due calm h = h
 due_is lang.Unbuilt due calm h = h
 
 -- a line at which nothing happens
-quiet_line : {T : Type 0} (step : Command → Answered T → Type 0) (line : Line) (x : given.Answer) (o : Scene T)
-    → ((a : Answered T) → a.new ≡ a.old → a.after ≡ a.before → a.text ≡ [] → LineAnswers step line x a) → AnswerCause x (counts_in o) (counts_in o)
-    → LineSteps step line x None o o
-quiet_line step line x o is cause = record {
+quiet_line : {T : Type 0} (rules : Rules T) (line : Line) (x : given.Answer) (o : Scene T)
+    → ((a : Answered T) → a.new ≡ a.old → a.after ≡ a.before → a.text ≡ [] → LineAnswers rules line x a) → AnswerCause x (counts_in o) (counts_in o) → Fits rules line x o o None
+    → LineSteps rules line x None o o
+quiet_line rules line x o is cause fits = record {
   grows = within_refl o.view;
   later = record { vault = omega arith; clock = omega arith; out = omega arith };
   clock = gives_none o.told;
   cause = cause;
+  fits = fits;
   told = λ c told. record { reply = Done; text = []; after = c; content = told; written = put-nothing o.written; is = is _ refl refl refl };
 }
 
-refused_steps : {T : Type 0} (step : Command → Answered T → Type 0) (line : Line) (e : LangError) (o : Scene T) → line ≡ Err e → LineSteps step line (answer.Lang e) None o o
-refused_steps {T = T} step line e o is =
-    subst (λ (l : Line). LineSteps step l (answer.Lang e) None o o) (sym is)
-    (quiet_line step (Err e) (answer.Lang e) o (λ a s c t. (refl, record { held = s; content = c; text = t })) tt)
+refused_steps : {T : Type 0} (rules : Rules T) (line : Line) (e : LangError) (o : Scene T) → line ≡ Err e → LineSteps rules line (answer.Lang e) None o o
+refused_steps {T = T} rules line e o is =
+    subst (λ (l : Line). LineSteps rules l (answer.Lang e) None o o) (sym is)
+    (quiet_line rules (Err e) (answer.Lang e) o (λ a s c t. (refl, record { held = s; content = c; text = t })) tt (refl, record { same = refl; none = refl }))
 
 refused_quits : (line : Line) (e : LangError) → line ≡ Err e → false ≡ is_quit line
 refused_quits line e is = ap is_quit (sym is)
 
 -- a line that is no command
-pub refused_line : {T : Type 0} (step : Command → Answered T → Type 0) (line : Line) (e : LangError) (o : Scene T) (r : Result LineAnswer OutOfMemory) → Refuses e line → RefusedLine e r → LineEnds step line r o o
-refused_line step line e o (Ok x) h is =
+pub refused_line : {T : Type 0} (rules : Rules T) (line : Line) (e : LangError) (o : Scene T) (r : Result LineAnswer OutOfMemory) → Refuses e line → RefusedLine e r → LineEnds rules line r o o
+refused_line rules line e o (Ok x) h is =
     let due = due_is e line is.1 h in (
-      subst (λ (y : LineAnswer). LineSteps step line y.answer y.reading o o) (sym is.0) (refused_steps step line e o due),
+      subst (λ (y : LineAnswer). LineSteps rules line y.answer y.reading o o) (sym is.0) (refused_steps rules line e o due),
       ap (λ (y : LineAnswer). y.quits) is.0 ∙ refused_quits line e due,
     )
-refused_line step line e o (Err x) h is = refl
+refused_line rules line e o (Err x) h is = refl
 
 -- a line without words
-pub empty_line : {T : Type 0} (step : Command → Answered T → Type 0) (command : Command) (o : Scene T) → command ≡ commands.Nothing → LineSteps step (Ok command) answer.Nothing None o o
-empty_line {T = T} step command o is =
-    subst (λ (d : Command). LineSteps step (Ok d) answer.Nothing None o o) (sym is)
-    (quiet_line step (Ok commands.Nothing) answer.Nothing o (λ a s c t. (refl, record { held = s; content = c; text = t })) tt)
+pub empty_line : {T : Type 0} (rules : Rules T) (command : Command) (o : Scene T) → command ≡ commands.Nothing → LineSteps rules (Ok command) answer.Nothing None o o
+empty_line {T = T} rules command o is =
+    subst (λ (d : Command). LineSteps rules (Ok d) answer.Nothing None o o) (sym is)
+    (quiet_line rules (Ok commands.Nothing) answer.Nothing o (λ a s c t. (refl, record { held = s; content = c; text = t })) tt (refl, record { same = refl; none = refl }))
 
 pub empty_quits : (command : Command) → command ≡ commands.Nothing → false ≡ is_quit (Ok command)
 empty_quits command is = ap (λ (d : Command). is_quit (Ok d)) (sym is)
 
-command_line : {T : Type 0} (step : Command → Answered T → Type 0) (command : Command) (x : given.Answer) (a : Answered T) → command ≢ commands.Nothing → x ≡ answer.Command a.reply → step command a → LineAnswers step (Ok command) x a
-command_line step commands.Nothing x a calm is s = absurd (calm refl)
-command_line step command x a calm is s = (is, s)
+command_line : {T : Type 0} (rules : Rules T) (command : Command) (x : given.Answer) (a : Answered T) → command ≢ commands.Nothing → x ≡ answer.Command a.reply → rules.step command a → LineAnswers rules (Ok command) x a
+command_line rules commands.Nothing x a calm is s = absurd (calm refl)
+command_line rules command x a calm is s = (is, s)
+
+command_fits : {T : Type 0} (rules : Rules T) (command : Command) (reply : Reply) (reading : Option ℕ) (old new : Scene T) → command ≢ commands.Nothing → rules.owes command old new reply reading
+    → Fits rules (Ok command) (answer.Command reply) old new reading
+command_fits rules commands.Nothing reply reading old new calm o = absurd (calm refl)
+command_fits rules command reply reading old new calm o = (reply, refl, o)
 
 -- a command that was answered by a step
-pub stepped_line : {T : Type 0} (step : Command → Answered T → Type 0) (command : Command) (reply : Reply) (reading : Option ℕ) (old new : Scene T) → command ≢ commands.Nothing
-    → Steps (step command) old new reply reading → LineSteps step (Ok command) (answer.Command reply) reading old new
-stepped_line step command reply reading old new calm s = record {
+pub stepped_line : {T : Type 0} (rules : Rules T) (command : Command) (reply : Reply) (reading : Option ℕ) (old new : Scene T) → command ≢ commands.Nothing
+    → Steps rules command old new reply reading → LineSteps rules (Ok command) (answer.Command reply) reading old new
+stepped_line rules command reply reading old new calm s = record {
   grows = s.grows;
   later = s.later;
   clock = s.clock;
   cause = s.cause;
+  fits = command_fits rules command reply reading old new calm s.owes;
   told = λ c told. let a = s.told c told in record {
     reply = reply;
     text = a.text;
     after = a.after;
     content = a.content;
     written = a.written;
-    is = command_line step command (answer.Command reply) (answered_in old new c reading reply a.text a.after) calm refl a.is;
+    is = command_line rules command (answer.Command reply) (answered_in old new c reading reply a.text a.after) calm refl a.is;
   };
 }

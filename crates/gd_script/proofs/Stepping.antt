@@ -12,15 +12,16 @@ use Rattle.gd_session.specs.Calls as session
 use Rattle.gd_session.specs.Proper as session_limits
 use Rattle.gd_session.specs.Calls.{Answers, AnswersWith, unasked}
 use Rattle.gd_session.specs.Rows.{Closes}
-use Rattle.gd_session.specs.Due.{Causes, Kind}
-use Rattle.gd_session.specs.State.{Held}
+use Rattle.gd_session.specs.Closing.{ClosesIn, ClosesSynced}
+use Rattle.gd_session.specs.Due.{CausedBy, Causes, Kind, due, kind_of}
+use Rattle.gd_session.specs.State.{Held, seen}
 use Rattle.gd_session.specs.Step.{Stepped}
 use Rattle.gd_session.specs.declared.reply.Reply.{Reply}
 use Rattle.gd_session.specs.declared.reply.Reply.TheVariants.{Done, Quit, Refused, Typed, SinkFault}
 use Rattle.gd_vault.specs.Frame.{Within}
 use Rattle.gd_vault.specs.Views.{View}
 use Rattle.gd_script.specs.Answers.{AnyFile, AnyName, Closing, ReplyCause, Steps, Text, counts_in, scene}
-use Rattle.gd_script.specs.Sessions.{in_session}
+use Rattle.gd_script.specs.Sessions.{session_rules}
 use Rattle.gd_script.proofs.Chains.{gives_none}
 
 cause_of : (due : Option Reply) (kind : Kind) (r : Reply) (old new : Held) (u v : View) (w w' : Option Text) (f f' : ℕ) (t : Option Readings) (k : ℕ)
@@ -34,17 +35,18 @@ cause_of due kind Quit old new u v w w' f f' t k c = tt
 cause_of due kind (Typed e) old new u v w w' f f' t k c = tt
 
 -- a step of a session
-pub session_steps : (command : Command) (r : Reply) (due : Option Reply) (kind : Kind) (old new : Held) (u v : View) (w w' : Option Text) (f f' : ℕ) (t t' : Option Readings) (k k' : ℕ)
+pub session_steps : (command : Command) (r : Reply) (old new : Held) (u v : View) (w w' : Option Text) (f f' : ℕ) (t t' : Option Readings) (k k' : ℕ)
     → Within AnyFile AnyName u v → f ≤ f' → t' ≡ t → k' ≡ k
-    → AnswersWith (Stepped command) (session.scene old u w f) (session.scene new v w' f') (unasked k) r → Causes due kind (session.scene old u w f) (session.scene new v w' f') r
-    → Steps (λ a. Stepped command (in_session a)) (scene old u w f t k) (scene new v w' f' t' k') r None
-session_steps command r due kind old new u v w w' f f' t t' k k' grows out told clock answer cause =
-    subst (λ (o : Option Readings). Steps (λ a. Stepped command (in_session a)) (scene old u w f t k) (scene new v w' f' o k') r None) (sym told)
-    (subst (λ (n : ℕ). Steps (λ a. Stepped command (in_session a)) (scene old u w f t k) (scene new v w' f' t n) r None) (sym clock) record {
+    → AnswersWith (Stepped command) (session.scene old u w f) (session.scene new v w' f') (unasked k) r → CausedBy command (session.scene old u w f) (session.scene new v w' f') r
+    → ClosesIn command old.phase r u v → Steps session_rules command (scene old u w f t k) (scene new v w' f' t' k') r None
+session_steps command r old new u v w w' f f' t t' k k' grows out told clock answer cause closes =
+    subst (λ (o : Option Readings). Steps session_rules command (scene old u w f t k) (scene new v w' f' o k') r None) (sym told)
+    (subst (λ (n : ℕ). Steps session_rules command (scene old u w f t k) (scene new v w' f' t n) r None) (sym clock) record {
       grows = grows;
       later = record { vault = grows.faults; clock = omega arith; out = out };
       clock = gives_none t;
-      cause = cause_of due kind r old new u v w w' f f' t k cause;
+      cause = cause_of (due command (seen old)) (kind_of command) r old new u v w w' f f' t k cause;
+      owes = record { caused = cause; closes = closes; none = refl; told = refl; clock_faults = refl };
       told = λ c is. let a = answer c is in record { text = a.text; after = a.after; content = a.told; written = a.written; is = a.is };
     })
 
@@ -84,11 +86,12 @@ proper_same (commands.Delete key) h = tt
 -- the closing of a session
 pub session_closes : (r : Reply) (old new : Held) (u v : View) → Within AnyFile AnyName u v
     → ((out : Option Text) (failed : ℕ) → Answers Closes (session.scene old u out failed) (session.scene new v out failed) r)
-    → (r ≡ Done) ⊎ ((r ≡ Refused VaultFault) × Rose u.faults v.faults) → Closing (λ a. Closes (in_session a)) old new u v r
-session_closes r old new u v grows answers cause =
+    → (r ≡ Done) ⊎ ((r ≡ Refused VaultFault) × Rose u.faults v.faults) → ClosesSynced old.phase r u v → Closing session_rules old new u v r
+session_closes r old new u v grows answers cause synced =
     let none : Text = [] in record {
       grows = grows;
       cause = cause;
+      durable = synced;
       told = λ c is.
           let a = answers (Some none) 0 (unasked 0) (omega arith) c is in
           let text : a.text ≡ [] = let both : Some none ≡ Some a.text = a.written in cc in (

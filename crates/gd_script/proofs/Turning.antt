@@ -4,10 +4,9 @@ use Rattle.std.proofs.Math.Seq.{take-length}
 use Rattle.gd_base.specs.Causes.{HasCause, Rose}
 use Rattle.gd_base.specs.Streams.{Puts, WritesFront, and_then}
 use Rattle.gd_base.specs.declared.errors.Failed.{Failed}
-use Rattle.gd_lang.specs.declared.commands.Command.{Command}
 use Rattle.gd_session.specs.declared.reply.Reply.TheVariants.{Done, Quit, Refused, Typed, SinkFault}
 use Rattle.gd_vault.specs.Views.{IsMoment}
-use Rattle.gd_script.specs.Answers.{Answered, AnswerCause, Counts, LineSteps, Text, counts_in}
+use Rattle.gd_script.specs.Answers.{AnswerCause, Counts, LineSteps, Rules, Text, counts_in}
 use Rattle.gd_script.specs.Lines.{Line, is_quit}
 use Rattle.gd_script.specs.Reading.{FailsOnce}
 use Rattle.gd_script.specs.Says.{error_line}
@@ -52,8 +51,8 @@ rose_by : (before now : ℕ) → before ≤ now → now ≢ before → Rose befo
 rose_by before now le h = omega arith
 
 -- what happened in a turn
-pub record Happened {T : Type 0} (step : Command → Answered T → Type 0) (line : Line) (x : given.Answer) (quits : Bool) (reading : Option ℕ) (done : ℕ) (faults : Faults) (turns turns' : List Turn) (said : Result (Unit {0}) Failed) (old new : Objects T) : Type 0 where
-  pub steps : LineSteps step line x reading old.scene new.scene
+pub record Happened {T : Type 0} (rules : Rules T) (line : Line) (x : given.Answer) (quits : Bool) (reading : Option ℕ) (done : ℕ) (faults : Faults) (turns turns' : List Turn) (said : Result (Unit {0}) Failed) (old new : Objects T) : Type 0 where
+  pub steps : LineSteps rules line x reading old.scene new.scene
   pub quits_is : quits ≡ is_quit line
   pub pushed : turns' ≡ turns ++ (record { answer = x; done = done; faults = faults; reading = reading }) ∷ []
   pub counts : faults ≡ faults_of new
@@ -63,9 +62,9 @@ pub record Happened {T : Type 0} (step : Command → Answered T → Type 0) (lin
   pub says : Puts old.said new.said said (error_line (length turns + 1) x)
   pub cause : HasCause old.err_faults new.err_faults said
 
-turned : {T : Type 0} (step : Command → Answered T → Type 0) (line : Line) (x : given.Answer) (quits : Bool) (reading : Option ℕ) (done : ℕ) (faults : Faults) (turns turns' : List Turn) (said : Result (Unit {0}) Failed) (old new : Objects T)
-    → Happened step line x quits reading done faults turns turns' said old new → Turned step line turns turns' old new
-turned step line x quits reading done faults turns turns' said old new h = record {
+turned : {T : Type 0} (rules : Rules T) (line : Line) (x : given.Answer) (quits : Bool) (reading : Option ℕ) (done : ℕ) (faults : Faults) (turns turns' : List Turn) (said : Result (Unit {0}) Failed) (old new : Objects T)
+    → Happened rules line x quits reading done faults turns turns' said old new → Turned rules line turns turns' old new
+turned rules line x quits reading done faults turns turns' said old new h = record {
   turn = record { answer = x; done = done; faults = faults; reading = reading };
   pushed = h.pushed;
   counts = h.counts;
@@ -77,12 +76,12 @@ turned step line x quits reading done faults turns turns' said old new h = recor
   said = said_front old.said new.said said (error_line (length turns + 1) x) h.says;
 }
 
-calm : {T : Type 0} (step : Command → Answered T → Type 0) (line : Line) (x : given.Answer) (quits ends : Bool) (reading : Option ℕ) (done : ℕ) (faults : Faults) (turns turns' : List Turn) (said : Result (Unit {0}) Failed) (old new : Objects T) (before after : ℕ)
+calm : {T : Type 0} (rules : Rules T) (line : Line) (x : given.Answer) (quits ends : Bool) (reading : Option ℕ) (done : ℕ) (faults : Faults) (turns turns' : List Turn) (said : Result (Unit {0}) Failed) (old new : Objects T) (before after : ℕ)
     → IsCalmEnd x said before after → quits ≡ ends → before ≡ old.scene.out_faults → after ≡ new.scene.out_faults
-    → Happened step line x quits reading done faults turns turns' said old new → CalmTurned step line ends turns turns' old new
+    → Happened rules line x quits reading done faults turns turns' said old new → CalmTurned rules line ends turns turns' old new
 unfolding turned
-calm step line x quits ends reading done faults turns turns' said old new before after k e b a h = record {
-  turned = turned step line x quits reading done faults turns turns' said old new h;
+calm rules line x quits ends reading done faults turns turns' said old new before after k e b a h = record {
+  turned = turned rules line x quits reading done faults turns turns' said old new h;
   calm = record {
     answered = no_sink_fault x k.answered;
     out = sym a ∙ (k.out ∙ b);
@@ -97,38 +96,38 @@ out_rose : {T : Type 0} (x : given.Answer) (old new : Objects T) (before after :
 out_rose x old new before after b a le c (inl is) = sink_rose x (counts_in old.scene) (counts_in new.scene) is c
 out_rose x old new before after b a le c (inr ne) = rose_by old.scene.out_faults new.scene.out_faults le (λ is. ne (a ∙ (is ∙ sym b)))
 
-pub turn_ends : {T : Type 0} (step : Command → Answered T → Type 0) (line : Line) (end : Option Ending) (x : given.Answer) (quits : Bool) (reading : Option ℕ) (done : ℕ) (faults : Faults) (turns turns' : List Turn) (said : Result (Unit {0}) Failed) (old new : Objects T) (before after : ℕ)
+pub turn_ends : {T : Type 0} (rules : Rules T) (line : Line) (end : Option Ending) (x : given.Answer) (quits : Bool) (reading : Option ℕ) (done : ℕ) (faults : Faults) (turns turns' : List Turn) (said : Result (Unit {0}) Failed) (old new : Objects T) (before after : ℕ)
     → EndIs end x quits said before after → before ≡ old.scene.out_faults → after ≡ new.scene.out_faults
-    → Happened step line x quits reading done faults turns turns' said old new → TurnEnds step line end turns turns' old new
+    → Happened rules line x quits reading done faults turns turns' said old new → TurnEnds rules line end turns turns' old new
 unfolding turned
-turn_ends step line None x quits reading done faults turns turns' said old new before after e b a h =
-    calm step line x quits false reading done faults turns turns' said old new before after e.0 e.1 b a h
-turn_ends step line (Some Read) x quits reading done faults turns turns' said old new before after e b a h =
-    calm step line x quits true reading done faults turns turns' said old new before after e.0 e.1 b a h
-turn_ends step line (Some OutputFailed) x quits reading done faults turns turns' said old new before after e b a h = record {
-  turned = turned step line x quits reading done faults turns turns' said old new h;
+turn_ends rules line None x quits reading done faults turns turns' said old new before after e b a h =
+    calm rules line x quits false reading done faults turns turns' said old new before after e.0 e.1 b a h
+turn_ends rules line (Some Read) x quits reading done faults turns turns' said old new before after e b a h =
+    calm rules line x quits true reading done faults turns turns' said old new before after e.0 e.1 b a h
+turn_ends rules line (Some OutputFailed) x quits reading done faults turns turns' said old new before after e b a h = record {
+  turned = turned rules line x quits reading done faults turns turns' said old new h;
   rose = out_rose x old new before after b a h.steps.later.out h.steps.cause e.1;
   err = calm_err old.err_faults new.err_faults said e.0 h.cause;
   said = said_whole old.said new.said said (error_line (length turns + 1) x) e.0 h.says;
 }
-turn_ends step line (Some ErrorFailed) x quits reading done faults turns turns' said old new before after e b a h = record {
-  turned = turned step line x quits reading done faults turns turns' said old new h;
+turn_ends rules line (Some ErrorFailed) x quits reading done faults turns turns' said old new before after e b a h = record {
+  turned = turned rules line x quits reading done faults turns turns' said old new h;
   fails = fails_err old.err_faults new.err_faults said e h.cause;
 }
-turn_ends step line (Some InputFailed) x quits reading done faults turns turns' said old new before after e b a h = absurd e
-turn_ends step line (Some TooLong) x quits reading done faults turns turns' said old new before after e b a h = absurd e
-turn_ends step line (Some Starved) x quits reading done faults turns turns' said old new before after e b a h = absurd e
+turn_ends rules line (Some InputFailed) x quits reading done faults turns turns' said old new before after e b a h = absurd e
+turn_ends rules line (Some TooLong) x quits reading done faults turns turns' said old new before after e b a h = absurd e
+turn_ends rules line (Some Starved) x quits reading done faults turns turns' said old new before after e b a h = absurd e
 
 -- the same by the calls of a turn
-pub turn_happens : {T : Type 0} (step : Command → Answered T → Type 0) (line : Line) (end : Option Ending) (found : LineAnswer) (done : ℕ) (faults : Faults) (turns turns' : List Turn) (said : Result (Unit {0}) Failed) (old new : Objects T) (before len : ℕ)
+pub turn_happens : {T : Type 0} (rules : Rules T) (line : Line) (end : Option Ending) (found : LineAnswer) (done : ℕ) (faults : Faults) (turns turns' : List Turn) (said : Result (Unit {0}) Failed) (old new : Objects T) (before len : ℕ)
     → EndIs end found.answer found.quits said before faults.out → before ≡ old.scene.out_faults
-    → LineSteps step line found.answer found.reading old.scene new.scene × (found.quits ≡ is_quit line)
+    → LineSteps rules line found.answer found.reading old.scene new.scene × (found.quits ≡ is_quit line)
     → turns' ≡ turns ++ (record { answer = found.answer; done = done; faults = faults; reading = found.reading }) ∷ []
     → faults ≡ faults_of new → IsMoment new.scene.view done → new.left ≡ old.left → new.input_faults ≡ old.input_faults
     → len ≡ length turns → Puts old.said new.said said (error_line (len + 1) found.answer) → HasCause old.err_faults new.err_faults said
-    → TurnEnds step line end turns turns' old new
-turn_happens step line end found done faults turns turns' said old new before len e b steps pushed counts moment left input long says cause =
-    turn_ends step line end found.answer found.quits found.reading done faults turns turns' said old new before faults.out e b (ap (λ (f : Faults). f.out) counts)
+    → TurnEnds rules line end turns turns' old new
+turn_happens rules line end found done faults turns turns' said old new before len e b steps pushed counts moment left input long says cause =
+    turn_ends rules line end found.answer found.quits found.reading done faults turns turns' said old new before faults.out e b (ap (λ (f : Faults). f.out) counts)
     (record {
       steps = steps.0;
       quits_is = steps.1;

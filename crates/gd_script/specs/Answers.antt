@@ -65,6 +65,18 @@ answered_in old new c reading reply text d = record {
   counts = counts_in new;
 }
 
+-- ---- what an interpreter owes
+
+pub record Rules (T : Type 0) : Type 1 where
+  -- an answer to a command, where the content is told
+  pub step : Command → Answered T → Type 0
+  -- the same over every vault, by what is seen before and after it, the reply and the reading of the clock
+  pub owes : Command → (old new : Scene T) → Reply → Option ℕ → Type 0
+  -- the closing at the end, where the content is told
+  pub closes : Answered T → Type 0
+  -- how the closing makes durable what it closes, over every vault
+  pub syncs : T → Reply → (old new : View) → Type 0
+
 -- ---- the answer to a command
 
 abbrev pub AnyFile : ℕ → Type 0
@@ -103,13 +115,14 @@ pub record Told {T : Type 0} (row : Answered T → Type 0) (old new : Scene T) (
   pub written : new.written ≡ and_then old.written text
   pub is : row (answered_in old new c reading reply text after)
 
--- the answer of a row, whatever is told
-pub record Steps {T : Type 0} (row : Answered T → Type 0) (old new : Scene T) (reply : Reply) (reading : Option ℕ) : Type 0 where
+-- the answer to a command, whatever is told
+pub record Steps {T : Type 0} (rules : Rules T) (command : Command) (old new : Scene T) (reply : Reply) (reading : Option ℕ) : Type 0 where
   pub grows : Within AnyFile AnyName old.view new.view
   pub later : CountsLater (counts_in old) (counts_in new)
   pub clock : GivesMore old.told new.told (given_in reading)
   pub cause : ReplyCause reply (counts_in old) (counts_in new)
-  pub told : (c : Content) → content_of old.view.told ≡ Some c → Told row old new reply reading c
+  pub owes : rules.owes command old new reply reading
+  pub told : (c : Content) → content_of old.view.told ≡ Some c → Told (rules.step command) old new reply reading c
 
 -- ---- the closing
 
@@ -118,10 +131,11 @@ abbrev pub still : {T : Type 0} → T → View → Scene T
 still held view = scene held view None 0 None 0
 
 -- what is open is closed, or the vault failed; nothing is printed
-pub record Closing {T : Type 0} (row : Answered T → Type 0) (old new : T) (u v : View) (reply : Reply) : Type 0 where
+pub record Closing {T : Type 0} (rules : Rules T) (old new : T) (u v : View) (reply : Reply) : Type 0 where
   pub grows : Within AnyFile AnyName u v
   pub cause : (reply ≡ Done) ⊎ ((reply ≡ Refused VaultFault) × Rose u.faults v.faults)
-  pub told : (c : Content) → content_of u.told ≡ Some c → (d : Content) × (content_of v.told ≡ Some d) × row (answered_in (still old u) (still new v) c None reply [] d)
+  pub durable : rules.syncs old reply u v
+  pub told : (c : Content) → content_of u.told ≡ Some c → (d : Content) × (content_of v.told ≡ Some d) × rules.closes (answered_in (still old u) (still new v) c None reply [] d)
 
 -- ---- the answer to a line
 
@@ -132,26 +146,39 @@ pub record Stays {T : Type 0} (a : Answered T) : Type 0 where
   pub text : a.text ≡ []
 
 -- a command is answered by its step; a refused line changes nothing, and neither does one without words
-abbrev pub LineAnswers : {T : Type 0} → (Command → Answered T → Type 0) → Line → given.Answer → Answered T → Type 0
-LineAnswers step (Err e) x a = (x ≡ answer.Lang e) × Stays a
-LineAnswers step (Ok commands.Nothing) x a = (x ≡ answer.Nothing) × Stays a
-LineAnswers step (Ok command) x a = (x ≡ answer.Command a.reply) × step command a
+abbrev pub LineAnswers : {T : Type 0} → Rules T → Line → given.Answer → Answered T → Type 0
+LineAnswers rules (Err e) x a = (x ≡ answer.Lang e) × Stays a
+LineAnswers rules (Ok commands.Nothing) x a = (x ≡ answer.Nothing) × Stays a
+LineAnswers rules (Ok command) x a = (x ≡ answer.Command a.reply) × rules.step command a
+
+-- no object of a command is asked, and the clock gives no reading
+pub record AsksNone {T : Type 0} (old new : Scene T) (reading : Option ℕ) : Type 0 where
+  pub same : new ≡ old
+  pub none : reading ≡ None
+
+-- an answer fits its line, over every vault: that of a line that is no command is its error, and nothing is asked; that of a
+-- command is a reply that the command owes
+abbrev pub Fits : {T : Type 0} → Rules T → Line → given.Answer → (old new : Scene T) → Option ℕ → Type 0
+Fits rules (Err e) x old new reading = (x ≡ answer.Lang e) × AsksNone old new reading
+Fits rules (Ok commands.Nothing) x old new reading = (x ≡ answer.Nothing) × AsksNone old new reading
+Fits rules (Ok command) x old new reading = (reply : Reply) × (x ≡ answer.Command reply) × rules.owes command old new reply reading
 
 abbrev pub AnswerCause : given.Answer → (old new : Counts) → Type 0
 AnswerCause (answer.Command reply) old new = ReplyCause reply old new
 AnswerCause x old new = Unit {0}
 
-pub record LineTold {T : Type 0} (step : Command → Answered T → Type 0) (line : Line) (x : given.Answer) (reading : Option ℕ) (old new : Scene T) (c : Content) : Type 0 where
+pub record LineTold {T : Type 0} (rules : Rules T) (line : Line) (x : given.Answer) (reading : Option ℕ) (old new : Scene T) (c : Content) : Type 0 where
   pub reply : Reply
   pub text : Text
   pub after : Content
   pub content : content_of new.view.told ≡ Some after
   pub written : new.written ≡ and_then old.written text
-  pub is : LineAnswers step line x (answered_in old new c reading reply text after)
+  pub is : LineAnswers rules line x (answered_in old new c reading reply text after)
 
-pub record LineSteps {T : Type 0} (step : Command → Answered T → Type 0) (line : Line) (x : given.Answer) (reading : Option ℕ) (old new : Scene T) : Type 0 where
+pub record LineSteps {T : Type 0} (rules : Rules T) (line : Line) (x : given.Answer) (reading : Option ℕ) (old new : Scene T) : Type 0 where
   pub grows : Within AnyFile AnyName old.view new.view
   pub later : CountsLater (counts_in old) (counts_in new)
   pub clock : GivesMore old.told new.told (given_in reading)
   pub cause : AnswerCause x (counts_in old) (counts_in new)
-  pub told : (c : Content) → content_of old.view.told ≡ Some c → LineTold step line x reading old new c
+  pub fits : Fits rules line x old new reading
+  pub told : (c : Content) → content_of old.view.told ≡ Some c → LineTold rules line x reading old new c

@@ -1,10 +1,10 @@
 -- The turns of a run: each is a step from where the one before ended.
 use Rattle.std.specs.Prelude.{◌≡◌, ◌≢◌, ◌≤◌, ℕ, false, List, [], ◌∷◌, ◌++◌}
-use Rattle.gd_lang.specs.declared.commands.Command.{Command}
 use Rattle.gd_session.specs.declared.reply.Reply.{Reply}
 use Rattle.gd_session.specs.declared.reply.Reply.TheVariants.{SinkFault}
 use Rattle.gd_vault.specs.Content.{Content}
-use Rattle.gd_script.specs.Answers.{Answered, AnswerCause, Counts, LineAnswers, Text, given_in}
+use Rattle.gd_vault.specs.Views.{IsMoment}
+use Rattle.gd_script.specs.Answers.{Answered, AnswerCause, Counts, Fits, LineAnswers, Rules, Scene, Text, counts_in, given_in}
 use Rattle.gd_script.specs.Lines.{Line, is_quit}
 use Rattle.gd_script.specs.declared.turns.Answer.TheVariants as answer
 use Rattle.gd_script.specs.declared.turns.Faults.{Faults}
@@ -30,10 +30,6 @@ pub record NeverFall (f g : Faults) : Type 0 where
   pub vault : f.vault ≤ g.vault
   pub clock : f.clock ≤ g.clock
 
--- what a command does, an answer to it
-abbrev pub Relation : Type 0 → Type 1
-Relation T = Command → Answered T → Type 0
-
 -- the answer that a turn has, with the contents at the moments around it
 abbrev pub answered_at : {T : Type 0} → (ℕ → Content) → Turn → Now T → Now T → Reply → Text → Answered T
 answered_at was t n m reply text = record {
@@ -49,7 +45,7 @@ answered_at was t n m reply text = record {
 }
 
 -- one turn: from the end of the one before it, over the reading of its line, its step and its error line
-pub record Link {T : Type 0} (step : Command → Answered T → Type 0) (was : ℕ → Content) (line : Line) (t : Turn) (n m : Now T) : Type 0 where
+pub record Link {T : Type 0} (rules : Rules T) (was : ℕ → Content) (line : Line) (t : Turn) (n m : Now T) : Type 0 where
   pub done : m.moment ≡ t.done
   pub counts : m.faults ≡ t.faults
   pub later : n.moment ≤ m.moment
@@ -58,18 +54,33 @@ pub record Link {T : Type 0} (step : Command → Answered T → Type 0) (was : �
   pub text : Text
   pub printed : m.out ≡ n.out ++ text
   pub reading : m.readings ≡ n.readings ++ given_in t.reading
-  pub answers : LineAnswers step line t.answer (answered_at was t n m reply text)
+  pub answers : LineAnswers rules line t.answer (answered_at was t n m reply text)
 
 -- turns, one a line; lines may be left
-unfoldable pub Chain : {T : Type 0} → (Command → Answered T → Type 0) → (ℕ → Content) → List Line → List Turn → Now T → Now T → Type 0
-Chain step was lines [] n m = m ≡ n
-Chain step was [] (t ∷ ts) n m = ⊥
-Chain {T = T} step was (line ∷ lines) (t ∷ ts) n m = (mid : Now T) × Link step was line t n mid × Chain step was lines ts mid m
+unfoldable pub Chain : {T : Type 0} → Rules T → (ℕ → Content) → List Line → List Turn → Now T → Now T → Type 0
+Chain rules was lines [] n m = m ≡ n
+Chain rules was [] (t ∷ ts) n m = ⊥
+Chain {T = T} rules was (line ∷ lines) (t ∷ ts) n m = (mid : Now T) × Link rules was line t n mid × Chain rules was lines ts mid m
 
 -- counts never fall from turn to turn, and a fault is answered only where its object's count rose; over every vault
 unfoldable pub Counted : Faults → List Turn → Faults → Type 0
 Counted f [] g = g ≡ f
 Counted f (t ∷ ts) g = NeverFall f t.faults × AnswerCause t.answer (counts_of f) (counts_of t.faults) × Counted t.faults ts g
+
+-- ---- what is owed over every vault
+
+-- a turn: its answer fits its line, and its counts and its moment are those at its end
+pub record Fitted {T : Type 0} (rules : Rules T) (line : Line) (t : Turn) (old new : Scene T) : Type 0 where
+  pub counts : counts_of t.faults ≡ counts_in new
+  pub moment : IsMoment new.view t.done
+  pub fits : Fits rules line t.answer old new t.reading
+
+-- turns, one a line, each from what is seen at the end of the one before
+unfoldable pub Fitting : {T : Type 0} → Rules T → List Line → List Turn → (old new : Scene T) → Type 0
+Fitting rules [] [] old new = new ≡ old
+Fitting rules [] (t ∷ ts) old new = ⊥
+Fitting rules (line ∷ lines) [] old new = ⊥
+Fitting {T = T} rules (line ∷ lines) (t ∷ ts) old new = (mid : Scene T) × Fitted rules line t old mid × Fitting rules lines ts mid new
 
 -- ---- behind which turns another one may come, over every vault
 

@@ -4,15 +4,14 @@ use Rattle.gd_base.specs.Causes.{Rose}
 use Rattle.gd_base.specs.Sources.{IsAtEnd}
 use Rattle.gd_base.specs.Streams.{and_then}
 use Rattle.gd_lang.specs.Commands.{command_of_line}
-use Rattle.gd_lang.specs.declared.commands.Command.{Command}
 use Rattle.gd_session.specs.Answers.{IsFront}
 use Rattle.gd_vault.specs.Content.{Content}
 use Rattle.gd_vault.specs.Events.{Event, moment_after}
 use Rattle.gd_vault.specs.History.{was}
 use Rattle.gd_vault.specs.Views.{View}
 use Rattle.gd_vault.specs.Views.Told.{Records}
-use Rattle.gd_script.specs.Answers.{Answered, GivesMore, Text}
-use Rattle.gd_script.specs.Chain.{Calm, Chain, Counted, LastTurn, Now}
+use Rattle.gd_script.specs.Answers.{GivesMore, Rules, Text}
+use Rattle.gd_script.specs.Chain.{Calm, Chain, Counted, Fitting, LastTurn, Now}
 use Rattle.gd_script.specs.Lines.{Line, commands_of, is_quit, whole_commands}
 use Rattle.gd_script.specs.Reading.{FailsOnce, Gives, Reading, reading}
 use Rattle.gd_script.specs.Says.{error_line, error_lines}
@@ -37,18 +36,18 @@ now_of o es out readings = record {
 }
 
 -- the turns are linked to the commands from the start to where the run stands; the history goes on
-pub record Ran {T : Type 0} (step : Command → Answered T → Type 0) (ds : List Line) (turns : List Turn) (first : Content) (es : List Event) (old new : Objects T) : Type 0 where
+pub record Ran {T : Type 0} (rules : Rules T) (ds : List Line) (turns : List Turn) (first : Content) (es : List Event) (old new : Objects T) : Type 0 where
   pub more : List Event
   pub told : new.scene.view.told ≡ Records first (more ++ es)
   pub out : Text
   pub written : new.scene.written ≡ and_then old.scene.written out
   pub readings : List ℕ
   pub clock : GivesMore old.scene.told new.scene.told readings
-  pub chain : Chain step (was first (more ++ es)) ds turns (now_of old es [] []) (now_of new (more ++ es) out readings)
+  pub chain : Chain rules (was first (more ++ es)) ds turns (now_of old es [] []) (now_of new (more ++ es) out readings)
 
 -- where the history is told
-abbrev pub Runs : {T : Type 0} → (Command → Answered T → Type 0) → (ds : List Line) (turns : List Turn) (old new : Objects T) → Type 0
-Runs step ds turns old new = (first : Content) (es : List Event) → old.scene.view.told ≡ Records first es → Ran step ds turns first es old new
+abbrev pub Runs : {T : Type 0} → Rules T → (ds : List Line) (turns : List Turn) (old new : Objects T) → Type 0
+Runs rules ds turns old new = (first : Content) (es : List Event) → old.scene.view.told ≡ Records first es → Ran rules ds turns first es old new
 
 -- ---- the commands
 
@@ -59,7 +58,7 @@ pub record Cut (ds : List Line) (taken waiting : List ℕ) : Type 0 where
 
 -- ---- where a run stands before a line
 
-pub record Standing {T : Type 0} (step : Command → Answered T → Type 0) (ready : View → T → Type 0) (r : Reading) (turns : List Turn) (old new : Objects T) : Type 0 where
+pub record Standing {T : Type 0} (rules : Rules T) (ready : View → T → Type 0) (r : Reading) (turns : List Turn) (old new : Objects T) : Type 0 where
   pub is_ready : ready new.scene.view new.scene.held
   pub ds : List Line
   pub taken : List ℕ
@@ -68,8 +67,9 @@ pub record Standing {T : Type 0} (step : Command → Answered T → Type 0) (rea
   pub few : length turns + length r.waiting ≤ r.taken
   pub cut : Cut ds taken r.waiting
   pub same : length ds ≡ length turns
-  pub ran : Runs step ds turns old new
+  pub ran : Runs rules ds turns old new
   pub counted : Counted (faults_of old) turns (faults_of new)
+  pub fitting : Fitting rules ds turns old.scene new.scene
   pub calm : Calm (faults_of old) ds turns
   pub said : new.said ≡ and_then old.said (error_lines 1 turns)
   pub input_calm : new.input_faults ≡ old.input_faults
@@ -83,16 +83,16 @@ abbrev pub reread : {T : Type 0} → (old new : Objects T) → Objects T
 reread old new = record old { left = new.left; input_faults = new.input_faults }
 
 -- what is done with what comes next
-abbrev pub AfterNext : {T : Type 0} → (Command → Answered T → Type 0) → Result Next Ending → Option Ending → (turns turns' : List Turn) → (mid new : Objects T) → Type 0
-AfterNext step (Ok (next.Line line)) end turns turns' mid new = TurnEnds step (command_of_line line.items) end turns turns' mid new
-AfterNext step (Ok (next.Last line)) end turns turns' mid new = (e : Option Ending) × TurnEnds step (command_of_line line.items) e turns turns' mid new × (end ≡ Some (last_ending e))
-AfterNext step (Ok next.End) end turns turns' mid new = (end ≡ Some Read) × Untouched turns turns' mid new
-AfterNext step (Err ending) end turns turns' mid new = (end ≡ Some ending) × Untouched turns turns' mid new
+abbrev pub AfterNext : {T : Type 0} → Rules T → Result Next Ending → Option Ending → (turns turns' : List Turn) → (mid new : Objects T) → Type 0
+AfterNext rules (Ok (next.Line line)) end turns turns' mid new = TurnEnds rules (command_of_line line.items) end turns turns' mid new
+AfterNext rules (Ok (next.Last line)) end turns turns' mid new = (e : Option Ending) × TurnEnds rules (command_of_line line.items) e turns turns' mid new × (end ≡ Some (last_ending e))
+AfterNext rules (Ok next.End) end turns turns' mid new = (end ≡ Some Read) × Untouched turns turns' mid new
+AfterNext rules (Err ending) end turns turns' mid new = (end ≡ Some ending) × Untouched turns turns' mid new
 
-pub record Nexts {T : Type 0} (step : Command → Answered T → Type 0) (end : Option Ending) (turns turns' : List Turn) (a b : Lines) (old new : Objects T) : Type 0 where
+pub record Nexts {T : Type 0} (rules : Rules T) (end : Option Ending) (turns turns' : List Turn) (a b : Lines) (old new : Objects T) : Type 0 where
   pub next : Result Next Ending
   pub gives : Gives next (reading a old.left old.input_faults) (reading b new.left new.input_faults)
-  pub after : AfterNext step next end turns turns' (reread old new) new
+  pub after : AfterNext rules next end turns turns' (reread old new) new
 
 -- ---- how a run ends
 
@@ -152,7 +152,7 @@ EndsFor ErrorFailed ds taken turns old mid new = ErrFails ds turns old mid
 EndsFor Starved ds taken turns old mid new = AllCalm ds turns old mid
 
 -- the turns of the commands, from the start to the end of the last turn; from there on the input alone was asked
-pub record Ended {T : Type 0} (step : Command → Answered T → Type 0) (ending : Ending) (turns : List Turn) (old new : Objects T) : Type 0 where
+pub record Ended {T : Type 0} (rules : Rules T) (ending : Ending) (turns : List Turn) (old new : Objects T) : Type 0 where
   pub mid : Objects T
   pub scene : new.scene ≡ mid.scene
   pub said_same : new.said ≡ mid.said
@@ -164,6 +164,7 @@ pub record Ended {T : Type 0} (step : Command → Answered T → Type 0) (ending
   pub took : old.left ≡ option_map (λ xs. taken ++ xs) new.left
   pub same : length ds ≡ length turns
   pub begins : (rest : List ℕ) → new.left ≡ Some rest → Begins (commands_of (taken ++ rest)) ds
-  pub ran : Runs step ds turns old mid
+  pub ran : Runs rules ds turns old mid
   pub counted : Counted (faults_of old) turns (faults_of mid)
+  pub fitting : Fitting rules ds turns old.scene mid.scene
   pub why : EndsFor ending ds taken turns old mid new

@@ -5,10 +5,9 @@ use Rattle.gd_base.specs.Errors.{error_text}
 use Rattle.gd_base.specs.Streams.{WritesFront, and_then}
 use Rattle.gd_base.specs.declared.errors.DbError.{DbError}
 use Rattle.gd_base.specs.declared.errors.DbError.TheVariants.{ClockFault, OutOfMemory, VaultFault}
-use Rattle.gd_lang.specs.declared.commands.Command.{Command}
 use Rattle.gd_session.specs.declared.reply.Reply.{Reply}
 use Rattle.gd_session.specs.declared.reply.Reply.TheVariants.{Refused, SinkFault, Typed}
-use Rattle.gd_script.specs.Answers.{Answered, Closing}
+use Rattle.gd_script.specs.Answers.{Closing, Rules}
 use Rattle.gd_script.specs.Reading.{FailsOnce}
 use Rattle.gd_script.specs.Run.{Ended}
 use Rattle.gd_script.specs.Turns.{Objects}
@@ -88,13 +87,13 @@ last_lines ending closing = ending_line ending ++ closing_line closing
 -- ---- the run
 
 -- the lines were answered, what is open was closed, and how it ended was said, whole or in part
-pub record Scripted {T : Type 0} (step : Command → Answered T → Type 0) (closes : Answered T → Type 0) (status : ℕ) (turns : List Turn) (old new : Objects T) : Type 0 where
+pub record Scripted {T : Type 0} (rules : Rules T) (status : ℕ) (turns : List Turn) (old new : Objects T) : Type 0 where
   pub ending : Ending
   pub closing : Reply
   pub said : Bool
   pub behind : Objects T
-  pub ended : Ended step ending turns old behind
-  pub closed : Closing closes behind.scene.held new.scene.held behind.scene.view new.scene.view closing
+  pub ended : Ended rules ending turns old behind
+  pub closed : Closing rules behind.scene.held new.scene.held behind.scene.view new.scene.view closing
   pub written : new.scene.written ≡ behind.scene.written
   pub out_faults : new.scene.out_faults ≡ behind.scene.out_faults
   pub told : new.scene.told ≡ behind.scene.told

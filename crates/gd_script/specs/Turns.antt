@@ -4,12 +4,11 @@ use Rattle.gd_base.specs.Causes.{Rose}
 use Rattle.gd_base.specs.Streams.{WritesFront, and_then}
 use Rattle.gd_base.specs.declared.errors.Failed.{Failed}
 use Rattle.gd_base.specs.declared.errors.OutOfMemory.{OutOfMemory}
-use Rattle.gd_lang.specs.declared.commands.Command.{Command}
 use Rattle.gd_lang.specs.declared.errors.LangError.{LangError}
 use Rattle.gd_lang.specs.declared.errors.LangError.TheVariants as lang
 use Rattle.gd_session.specs.declared.reply.Reply.TheVariants.{SinkFault}
 use Rattle.gd_vault.specs.Views.{IsMoment}
-use Rattle.gd_script.specs.Answers.{Answered, LineSteps, Scene, Text}
+use Rattle.gd_script.specs.Answers.{LineSteps, Rules, Scene, Text}
 use Rattle.gd_script.specs.Lines.{Line, is_quit}
 use Rattle.gd_script.specs.Reading.{FailsOnce}
 use Rattle.gd_script.specs.Says.{error_line}
@@ -36,12 +35,12 @@ abbrev pub faults_of : {T : Type 0} → Objects T → Faults
 faults_of o = record { input = o.input_faults; out = o.scene.out_faults; err = o.err_faults; vault = o.scene.view.faults; clock = o.scene.clock_faults }
 
 -- a turn more: the line was answered, and its error line said, at least in part
-pub record Turned {T : Type 0} (step : Command → Answered T → Type 0) (line : Line) (turns turns' : List Turn) (old new : Objects T) : Type 0 where
+pub record Turned {T : Type 0} (rules : Rules T) (line : Line) (turns turns' : List Turn) (old new : Objects T) : Type 0 where
   pub turn : Turn
   pub pushed : turns' ≡ turns ++ turn ∷ []
   pub counts : turn.faults ≡ faults_of new
   pub moment : IsMoment new.scene.view turn.done
-  pub steps : LineSteps step line turn.answer turn.reading old.scene new.scene
+  pub steps : LineSteps rules line turn.answer turn.reading old.scene new.scene
   pub left : new.left ≡ old.left
   pub input_faults : new.input_faults ≡ old.input_faults
   pub err_later : old.err_faults ≤ new.err_faults
@@ -55,21 +54,21 @@ pub record IsCalmTurn {T : Type 0} (number : ℕ) (x : given.Answer) (old new : 
   pub said : new.said ≡ and_then old.said (error_line number x)
 
 -- a turn more, behind which another may come
-pub record CalmTurned {T : Type 0} (step : Command → Answered T → Type 0) (line : Line) (quits : Bool) (turns turns' : List Turn) (old new : Objects T) : Type 0 where
-  pub turned : Turned step line turns turns' old new
+pub record CalmTurned {T : Type 0} (rules : Rules T) (line : Line) (quits : Bool) (turns turns' : List Turn) (old new : Objects T) : Type 0 where
+  pub turned : Turned rules line turns turns' old new
   pub calm : IsCalmTurn (length turns + 1) turned.turn.answer old new
   pub quits_is : is_quit line ≡ quits
 
 -- a turn more, in which the output failed
-pub record OutTurned {T : Type 0} (step : Command → Answered T → Type 0) (line : Line) (turns turns' : List Turn) (old new : Objects T) : Type 0 where
-  pub turned : Turned step line turns turns' old new
+pub record OutTurned {T : Type 0} (rules : Rules T) (line : Line) (turns turns' : List Turn) (old new : Objects T) : Type 0 where
+  pub turned : Turned rules line turns turns' old new
   pub rose : Rose old.scene.out_faults new.scene.out_faults
   pub err : new.err_faults ≡ old.err_faults
   pub said : new.said ≡ and_then old.said (error_line (length turns + 1) turned.turn.answer)
 
 -- a turn more, in which standard error failed once
-pub record ErrTurned {T : Type 0} (step : Command → Answered T → Type 0) (line : Line) (turns turns' : List Turn) (old new : Objects T) : Type 0 where
-  pub turned : Turned step line turns turns' old new
+pub record ErrTurned {T : Type 0} (rules : Rules T) (line : Line) (turns turns' : List Turn) (old new : Objects T) : Type 0 where
+  pub turned : Turned rules line turns turns' old new
   pub fails : FailsOnce old.err_faults new.err_faults
 
 -- nothing happened
@@ -78,20 +77,20 @@ pub record Untouched {T : Type 0} (turns turns' : List Turn) (old new : Objects 
   pub same : new ≡ old
 
 -- what a line does, and how the run ends in it
-abbrev pub TurnEnds : {T : Type 0} → (Command → Answered T → Type 0) → Line → Option Ending → (turns turns' : List Turn) → (old new : Objects T) → Type 0
-TurnEnds step line None turns turns' old new = CalmTurned step line false turns turns' old new
-TurnEnds step line (Some Read) turns turns' old new = CalmTurned step line true turns turns' old new
-TurnEnds step line (Some OutputFailed) turns turns' old new = OutTurned step line turns turns' old new
-TurnEnds step line (Some ErrorFailed) turns turns' old new = ErrTurned step line turns turns' old new
-TurnEnds step line (Some Starved) turns turns' old new = Untouched turns turns' old new
-TurnEnds step line (Some ending) turns turns' old new = ⊥
+abbrev pub TurnEnds : {T : Type 0} → Rules T → Line → Option Ending → (turns turns' : List Turn) → (old new : Objects T) → Type 0
+TurnEnds rules line None turns turns' old new = CalmTurned rules line false turns turns' old new
+TurnEnds rules line (Some Read) turns turns' old new = CalmTurned rules line true turns turns' old new
+TurnEnds rules line (Some OutputFailed) turns turns' old new = OutTurned rules line turns turns' old new
+TurnEnds rules line (Some ErrorFailed) turns turns' old new = ErrTurned rules line turns turns' old new
+TurnEnds rules line (Some Starved) turns turns' old new = Untouched turns turns' old new
+TurnEnds rules line (Some ending) turns turns' old new = ⊥
 
 -- ---- the answer to a line
 
 -- a line is answered, or no memory was found and nothing happened
-abbrev pub LineEnds : {T : Type 0} → (Command → Answered T → Type 0) → Line → Result LineAnswer OutOfMemory → (old new : Scene T) → Type 0
-LineEnds step line (Ok x) old new = LineSteps step line x.answer x.reading old new × (x.quits ≡ is_quit line)
-LineEnds step line (Err e) old new = new ≡ old
+abbrev pub LineEnds : {T : Type 0} → Rules T → Line → Result LineAnswer OutOfMemory → (old new : Scene T) → Type 0
+LineEnds rules line (Ok x) old new = LineSteps rules line x.answer x.reading old new × (x.quits ≡ is_quit line)
+LineEnds rules line (Err e) old new = new ≡ old
 
 abbrev pub RefusedLine : LangError → Result LineAnswer OutOfMemory → Type 0
 RefusedLine e (Ok x) = (x ≡ record { answer = answer.Lang e; reading = None; quits = false }) × (e ≢ lang.OutOfMemory)

@@ -94,7 +94,7 @@ fn answer_turn<T: Interpreter, S: Source, O: Sink, E: Sink, V: Vault, C: Clock>(
     requires room { vec_len turns.old < vec_capacity turns.old }
     requires few { vec_len turns.old ≤ 2 ^ 32 }
     ensures ready { T.ready (V.view_of vault.new) session.new }
-    ensures ends { TurnEnds T.step (command_of_line line.now) result turns.old.items turns.new.items
+    ensures ends { TurnEnds T.rules (command_of_line line.now) result turns.old.items turns.new.items
         (objects (scene session.old (V.view_of vault.old) (O.written out.old) (O.fault_count out.old) (C.told clock.old) (C.fault_count clock.old)) (S.left input.now) (S.fault_count input.now) (E.written err.old) (E.fault_count err.old))
         (objects (scene session.new (V.view_of vault.new) (O.written out.new) (O.fault_count out.new) (C.told clock.new) (C.fault_count clock.new)) (S.left input.now) (S.fault_count input.now) (E.written err.new) (E.fault_count err.new)) }
     ensures kept_out { O.kept out.old out.new }
@@ -135,7 +135,7 @@ fn answer_next<T: Interpreter, S: Source, O: Sink, E: Sink, V: Vault, C: Clock>(
     requires few { vec_len turns.old ≤ 2 ^ 32 }
     ensures ready { T.ready (V.view_of vault.new) session.new }
     ensures within { IsWithin lines.new }
-    ensures nexts { Nexts T.step result turns.old.items turns.new.items lines.old lines.new
+    ensures nexts { Nexts T.rules result turns.old.items turns.new.items lines.old lines.new
         (objects (scene session.old (V.view_of vault.old) (O.written out.old) (O.fault_count out.old) (C.told clock.old) (C.fault_count clock.old)) (S.left input.old) (S.fault_count input.old) (E.written err.old) (E.fault_count err.old))
         (objects (scene session.new (V.view_of vault.new) (O.written out.new) (O.fault_count out.new) (C.told clock.new) (C.fault_count clock.new)) (S.left input.new) (S.fault_count input.new) (E.written err.new) (E.fault_count err.new)) }
     ensures kept_out { O.kept out.old out.new }
@@ -171,7 +171,7 @@ pub fn answer_lines<T: Interpreter, S: Source, O: Sink, E: Sink, V: Vault, C: Cl
     requires ready { T.ready (V.view_of vault.old) session.old }
     requires none { turns.old.items ≡ [] }
     ensures ready { T.ready (V.view_of vault.new) session.new }
-    ensures ended { Ended T.step result turns.new.items
+    ensures ended { Ended T.rules result turns.new.items
         (objects (scene session.old (V.view_of vault.old) (O.written out.old) (O.fault_count out.old) (C.told clock.old) (C.fault_count clock.old)) (S.left input.old) (S.fault_count input.old) (E.written err.old) (E.fault_count err.old))
         (objects (scene session.new (V.view_of vault.new) (O.written out.new) (O.fault_count out.new) (C.told clock.new) (C.fault_count clock.new)) (S.left input.new) (S.fault_count input.new) (E.written err.new) (E.fault_count err.new)) }
     ensures kept_out { O.kept out.old out.new }

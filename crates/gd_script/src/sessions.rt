@@ -1,10 +1,7 @@
 //! A session answers the commands of a script.
 
-ghost use Rattle.gd_lang.specs.declared.commands.Command.{Command};
 ghost use Rattle.gd_session.specs.Calls.{IsReady};
-ghost use Rattle.gd_session.specs.Rows.{Closes};
-ghost use Rattle.gd_session.specs.Step.{Stepped};
-ghost use Rattle.gd_script.specs.Sessions.{in_session};
+ghost use Rattle.gd_script.specs.Sessions.{session_rules};
 
 use crate::interpreter::Interpreter;
 use gd_base::{Clock, Sink};
@@ -15,9 +12,7 @@ use gd_vault::Vault;
 impl Interpreter for Session {
     ghost ready = { λ v s. IsReady v s };
 
-    ghost step = { λ command a. Stepped command (in_session a) };
-
-    ghost closes = { λ a. Closes (in_session a) };
+    ghost rules = { session_rules };
 
     fn answer<V: Vault, C: Clock, O: Sink>(
         &mut self,

@@ -1,7 +1,6 @@
 -- The counts of faults over the run of a script.
 use Rattle.std.proofs.Common.{◌≡◌, ◌≤◌, ap, arith, ℕ, List, [], ◌∷◌}
-use Rattle.gd_lang.specs.declared.commands.Command.{Command}
-use Rattle.gd_script.specs.Answers.{Answered, Scene}
+use Rattle.gd_script.specs.Answers.{Rules, Scene}
 use Rattle.gd_script.specs.Chain.{Counted}
 use Rattle.gd_script.specs.Script.{Scripted}
 use Rattle.gd_script.specs.Turns.{Objects, faults_of}
@@ -14,9 +13,9 @@ counted_later f [] g c = (omega (arith, ap (λ (h : Faults). h.out) c), omega (a
 counted_later f (t ∷ ts) g c = let on = counted_later t.faults ts g c.2 in (omega (arith, c.0.out, on.0), omega (arith, c.0.err, on.1))
 
 -- no count of the output and of standard error falls
-pub scripted_later : {T : Type 0} (step : Command → Answered T → Type 0) (closes : Answered T → Type 0) (status : ℕ) (turns : List Turn) (old new : Objects T) → Scripted step closes status turns old new
+pub scripted_later : {T : Type 0} (rules : Rules T) (status : ℕ) (turns : List Turn) (old new : Objects T) → Scripted rules status turns old new
     → (old.scene.out_faults ≤ new.scene.out_faults) × (old.err_faults ≤ new.err_faults)
-scripted_later {T = T} step closes status turns old new s =
+scripted_later {T = T} rules status turns old new s =
     let e = s.ended in
     let counts = counted_later (faults_of old) turns (faults_of e.mid) e.counted in
     let out : old.scene.out_faults ≤ e.mid.scene.out_faults = counts.0 in

@@ -4,13 +4,11 @@ use Rattle.gd_base.specs.Causes.{Rose}
 use Rattle.gd_base.specs.Streams.{WritesFront, and_then}
 use Rattle.gd_script.specs.Answers.{scene}
 use Rattle.gd_script.specs.Script.{Scripted}
-use Rattle.gd_script.specs.Sessions.{in_session}
+use Rattle.gd_script.specs.Sessions.{session_rules}
 use Rattle.gd_script.specs.Turns.{Objects, objects}
 use Rattle.gd_script.specs.declared.turns.Turn.{Turn}
 use Rattle.gd_session.specs.Calls.{string_form}
-use Rattle.gd_session.specs.Rows.{Closes}
 use Rattle.gd_session.specs.State.{Held}
-use Rattle.gd_session.specs.Step.{Stepped}
 use Rattle.gd_session.specs.declared.phase.Phase.TheVariants as phases
 use Rattle.gd_words.specs.Meaning.{tool_reading}
 use Rattle.gd_words.specs.Reads as reads
@@ -68,7 +66,7 @@ pub record Begun (words : List Text) (status : ℕ) (turns : List Turn) (old new
   pub meant : ToolWords
   pub reads : tool_reading words ≡ Some meant
   pub after : Held
-  pub scripted : Scripted (λ command a. Stepped command (in_session a)) (λ a. Closes (in_session a)) status turns
+  pub scripted : Scripted session_rules status turns
       (with_session (begun meant) old) (with_session after new)
 
 -- ---- the run

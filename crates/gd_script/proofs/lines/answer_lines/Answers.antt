@@ -8,7 +8,7 @@ pub lines-init : goal.lines-init
 lines-init g c =
     let n = new_reading c.new-lines.result c.new-lines.ensures.place c.new-lines.ensures.piece c.new-lines.ensures.taken in (
       n.0,
-      standing_none g.T.Interpreter.step g.T.Interpreter.ready (reading c.new-lines.result (g.S.Source.left c.args.input.now) (g.S.Source.fault_count c.args.input.now)) c.args.turns.now.items
+      standing_none g.T.Interpreter.rules g.T.Interpreter.ready (reading c.new-lines.result (g.S.Source.left c.args.input.now) (g.S.Source.fault_count c.args.input.now)) c.args.turns.now.items
           (objects (scene c.args.session.now (g.V.Vault.view_of c.args.vault.now) (g.O.Sink.written c.args.out.now) (g.O.Sink.fault_count c.args.out.now) (g.C.Clock.told c.args.clock.now) (g.C.Clock.fault_count c.args.clock.now)) (g.S.Source.left c.args.input.now) (g.S.Source.fault_count c.args.input.now) (g.E.Sink.written c.args.err.now) (g.E.Sink.fault_count c.args.err.now))
           c.requires.ready c.requires.none n.1 c.new-lines.ensures.taken,
       g.met.O.Sink.kept_self c.args.out.now,
@@ -17,7 +17,7 @@ lines-init g c =
 
 pub returns-in-Some-clause-ended : goal.returns-in-Some-clause-ended
 returns-in-Some-clause-ended g c =
-    ends_next g.T.Interpreter.step g.T.Interpreter.ready c.in-Some.ending c.lines.turns.items c.answer_next.new.turns.items c.lines.lines c.answer_next.new.lines
+    ends_next g.T.Interpreter.rules g.T.Interpreter.ready c.in-Some.ending c.lines.turns.items c.answer_next.new.turns.items c.lines.lines c.answer_next.new.lines
     (objects (scene c.args.session.now (g.V.Vault.view_of c.args.vault.now) (g.O.Sink.written c.args.out.now) (g.O.Sink.fault_count c.args.out.now) (g.C.Clock.told c.args.clock.now) (g.C.Clock.fault_count c.args.clock.now)) (g.S.Source.left c.args.input.now) (g.S.Source.fault_count c.args.input.now) (g.E.Sink.written c.args.err.now) (g.E.Sink.fault_count c.args.err.now))
     (objects (scene c.lines.session (g.V.Vault.view_of c.lines.vault) (g.O.Sink.written c.lines.out) (g.O.Sink.fault_count c.lines.out) (g.C.Clock.told c.lines.clock) (g.C.Clock.fault_count c.lines.clock)) (g.S.Source.left c.lines.input) (g.S.Source.fault_count c.lines.input) (g.E.Sink.written c.lines.err) (g.E.Sink.fault_count c.lines.err))
     (objects (scene c.answer_next.new.session (g.V.Vault.view_of c.answer_next.new.vault) (g.O.Sink.written c.answer_next.new.out) (g.O.Sink.fault_count c.answer_next.new.out) (g.C.Clock.told c.answer_next.new.clock) (g.C.Clock.fault_count c.answer_next.new.clock)) (g.S.Source.left c.answer_next.new.input) (g.S.Source.fault_count c.answer_next.new.input) (g.E.Sink.written c.answer_next.new.err) (g.E.Sink.fault_count c.answer_next.new.err))
@@ -25,7 +25,7 @@ returns-in-Some-clause-ended g c =
 
 pub lines-smaller : goal.lines-smaller
 lines-smaller g c =
-    measure_next g.T.Interpreter.step c.lines.turns.items c.answer_next.new.turns.items c.lines.lines c.answer_next.new.lines
+    measure_next g.T.Interpreter.rules c.lines.turns.items c.answer_next.new.turns.items c.lines.lines c.answer_next.new.lines
     (objects (scene c.lines.session (g.V.Vault.view_of c.lines.vault) (g.O.Sink.written c.lines.out) (g.O.Sink.fault_count c.lines.out) (g.C.Clock.told c.lines.clock) (g.C.Clock.fault_count c.lines.clock)) (g.S.Source.left c.lines.input) (g.S.Source.fault_count c.lines.input) (g.E.Sink.written c.lines.err) (g.E.Sink.fault_count c.lines.err))
     (objects (scene c.answer_next.new.session (g.V.Vault.view_of c.answer_next.new.vault) (g.O.Sink.written c.answer_next.new.out) (g.O.Sink.fault_count c.answer_next.new.out) (g.C.Clock.told c.answer_next.new.clock) (g.C.Clock.fault_count c.answer_next.new.clock)) (g.S.Source.left c.answer_next.new.input) (g.S.Source.fault_count c.answer_next.new.input) (g.E.Sink.written c.answer_next.new.err) (g.E.Sink.fault_count c.answer_next.new.err))
     c.in-None.ensures.nexts c.answer_next.ensures.within.taken
@@ -33,7 +33,7 @@ lines-smaller g c =
 pub lines-preserved : goal.lines-preserved
 lines-preserved g c = (
   c.answer_next.ensures.within,
-  stands_next g.T.Interpreter.step g.T.Interpreter.ready c.lines.turns.items c.answer_next.new.turns.items c.lines.lines c.answer_next.new.lines
+  stands_next g.T.Interpreter.rules g.T.Interpreter.ready c.lines.turns.items c.answer_next.new.turns.items c.lines.lines c.answer_next.new.lines
       (objects (scene c.args.session.now (g.V.Vault.view_of c.args.vault.now) (g.O.Sink.written c.args.out.now) (g.O.Sink.fault_count c.args.out.now) (g.C.Clock.told c.args.clock.now) (g.C.Clock.fault_count c.args.clock.now)) (g.S.Source.left c.args.input.now) (g.S.Source.fault_count c.args.input.now) (g.E.Sink.written c.args.err.now) (g.E.Sink.fault_count c.args.err.now))
       (objects (scene c.lines.session (g.V.Vault.view_of c.lines.vault) (g.O.Sink.written c.lines.out) (g.O.Sink.fault_count c.lines.out) (g.C.Clock.told c.lines.clock) (g.C.Clock.fault_count c.lines.clock)) (g.S.Source.left c.lines.input) (g.S.Source.fault_count c.lines.input) (g.E.Sink.written c.lines.err) (g.E.Sink.fault_count c.lines.err))
       (objects (scene c.answer_next.new.session (g.V.Vault.view_of c.answer_next.new.vault) (g.O.Sink.written c.answer_next.new.out) (g.O.Sink.fault_count c.answer_next.new.out) (g.C.Clock.told c.answer_next.new.clock) (g.C.Clock.fault_count c.answer_next.new.clock)) (g.S.Source.left c.answer_next.new.input) (g.S.Source.fault_count c.answer_next.new.input) (g.E.Sink.written c.answer_next.new.err) (g.E.Sink.fault_count c.answer_next.new.err))

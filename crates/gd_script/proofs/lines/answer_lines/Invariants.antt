@@ -7,7 +7,7 @@ use Rattle.gd_script.proofs.lines.answer_lines.Given as goal
 
 abbrev pub invariant-lines : goal.invariant-lines
 invariant-lines g l = IsWithin l.lines
-    × Standing g.T.Interpreter.step g.T.Interpreter.ready (reading l.lines (g.S.Source.left l.input) (g.S.Source.fault_count l.input)) l.turns.items
+    × Standing g.T.Interpreter.rules g.T.Interpreter.ready (reading l.lines (g.S.Source.left l.input) (g.S.Source.fault_count l.input)) l.turns.items
     (objects (scene l.fn.session (g.V.Vault.view_of l.fn.vault) (g.O.Sink.written l.fn.out) (g.O.Sink.fault_count l.fn.out) (g.C.Clock.told l.fn.clock) (g.C.Clock.fault_count l.fn.clock)) (g.S.Source.left l.fn.input) (g.S.Source.fault_count l.fn.input) (g.E.Sink.written l.fn.err) (g.E.Sink.fault_count l.fn.err))
     (objects (scene l.session (g.V.Vault.view_of l.vault) (g.O.Sink.written l.out) (g.O.Sink.fault_count l.out) (g.C.Clock.told l.clock) (g.C.Clock.fault_count l.clock)) (g.S.Source.left l.input) (g.S.Source.fault_count l.input) (g.E.Sink.written l.err) (g.E.Sink.fault_count l.err))
     × g.O.Sink.kept l.fn.out l.out × g.E.Sink.kept l.fn.err l.err
