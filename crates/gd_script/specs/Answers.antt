@@ -72,6 +72,8 @@ pub record Rules (T : Type 0) : Type 1 where
   pub step : Command → Answered T → Type 0
   -- the same over every vault, by what is seen before and after it, the reply and the reading of the clock
   pub owes : Command → (old new : Scene T) → Reply → Option ℕ → Type 0
+  -- whether no answer asks the clock
+  pub clockless : Type 0
   -- the closing at the end, where the content is told
   pub closes : Answered T → Type 0
   -- how the closing makes durable what it closes, over every vault

@@ -42,6 +42,7 @@ abbrev pub session_rules : Rules Held
 session_rules = record {
   step = λ command a. Stepped command (in_session a);
   owes = Owes;
+  clockless = Unit {0};
   closes = λ a. Closes (in_session a);
   syncs = λ held reply u v. ClosesSynced held.phase reply u v;
 }

@@ -57,6 +57,7 @@ fn answer_command<T: Interpreter, V: Vault, C: Clock, O: Sink>(
     requires proper { IsProper command.now }
     ensures ready { T.ready (V.view_of vault.new) session.new }
     ensures steps { LineSteps T.rules (Ok command.now) result.answer result.reading (scene session.old (V.view_of vault.old) (O.written out.old) (O.fault_count out.old) (C.told clock.old) (C.fault_count clock.old)) (scene session.new (V.view_of vault.new) (O.written out.new) (O.fault_count out.new) (C.told clock.new) (C.fault_count clock.new)) }
+    ensures clock { T.rules.clockless → clock.new ≡ clock.old }
     ensures quits { result.quits ≡ is_quit (Ok command.now) }
     ensures kept { O.kept out.old out.new }
 {
@@ -87,6 +88,7 @@ pub(crate) fn answer_line<T: Interpreter, V: Vault, C: Clock, O: Sink>(
     requires ready { T.ready (V.view_of vault.old) session.old }
     ensures ready { T.ready (V.view_of vault.new) session.new }
     ensures ends { LineEnds T.rules (command_of_line line.now) result (scene session.old (V.view_of vault.old) (O.written out.old) (O.fault_count out.old) (C.told clock.old) (C.fault_count clock.old)) (scene session.new (V.view_of vault.new) (O.written out.new) (O.fault_count out.new) (C.told clock.new) (C.fault_count clock.new)) }
+    ensures clock { T.rules.clockless → clock.new ≡ clock.old }
     ensures kept { O.kept out.old out.new }
 {
     match command_of_line(alloc, line) {

@@ -1,5 +1,6 @@
 //! What answers the commands of a script.
 
+ghost use Rattle.std.specs.Prelude.{◌≡◌};
 ghost use Rattle.gd_lang.specs.Limits.{IsProper};
 ghost use Rattle.gd_vault.specs.Views.{View};
 ghost use Rattle.gd_script.specs.Answers.{Closing, Rules, Steps, scene};
@@ -29,6 +30,7 @@ pub trait Interpreter {
         requires proper { IsProper command.now }
         ensures ready { ready (V.view_of vault.new) self.new }
         ensures steps { Steps rules command.now (scene self.old (V.view_of vault.old) (O.written out.old) (O.fault_count out.old) (C.told clock.old) (C.fault_count clock.old)) (scene self.new (V.view_of vault.new) (O.written out.new) (O.fault_count out.new) (C.told clock.new) (C.fault_count clock.new)) result.0 result.1 }
+        ensures clock { rules.clockless → clock.new ≡ clock.old }
         ensures kept { O.kept out.old out.new };
 
     /// Closes what is open at the end of a run.

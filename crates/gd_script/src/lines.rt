@@ -97,6 +97,7 @@ fn answer_turn<T: Interpreter, S: Source, O: Sink, E: Sink, V: Vault, C: Clock>(
     ensures ends { TurnEnds T.rules (command_of_line line.now) result turns.old.items turns.new.items
         (objects (scene session.old (V.view_of vault.old) (O.written out.old) (O.fault_count out.old) (C.told clock.old) (C.fault_count clock.old)) (S.left input.now) (S.fault_count input.now) (E.written err.old) (E.fault_count err.old))
         (objects (scene session.new (V.view_of vault.new) (O.written out.new) (O.fault_count out.new) (C.told clock.new) (C.fault_count clock.new)) (S.left input.now) (S.fault_count input.now) (E.written err.new) (E.fault_count err.new)) }
+    ensures clock { T.rules.clockless → clock.new ≡ clock.old }
     ensures kept_out { O.kept out.old out.new }
     ensures kept_err { E.kept err.old err.new }
 {
@@ -138,6 +139,7 @@ fn answer_next<T: Interpreter, S: Source, O: Sink, E: Sink, V: Vault, C: Clock>(
     ensures nexts { Nexts T.rules result turns.old.items turns.new.items lines.old lines.new
         (objects (scene session.old (V.view_of vault.old) (O.written out.old) (O.fault_count out.old) (C.told clock.old) (C.fault_count clock.old)) (S.left input.old) (S.fault_count input.old) (E.written err.old) (E.fault_count err.old))
         (objects (scene session.new (V.view_of vault.new) (O.written out.new) (O.fault_count out.new) (C.told clock.new) (C.fault_count clock.new)) (S.left input.new) (S.fault_count input.new) (E.written err.new) (E.fault_count err.new)) }
+    ensures clock { T.rules.clockless → clock.new ≡ clock.old }
     ensures kept_out { O.kept out.old out.new }
     ensures kept_err { E.kept err.old err.new }
 {
@@ -174,6 +176,7 @@ pub fn answer_lines<T: Interpreter, S: Source, O: Sink, E: Sink, V: Vault, C: Cl
     ensures ended { Ended T.rules result turns.new.items
         (objects (scene session.old (V.view_of vault.old) (O.written out.old) (O.fault_count out.old) (C.told clock.old) (C.fault_count clock.old)) (S.left input.old) (S.fault_count input.old) (E.written err.old) (E.fault_count err.old))
         (objects (scene session.new (V.view_of vault.new) (O.written out.new) (O.fault_count out.new) (C.told clock.new) (C.fault_count clock.new)) (S.left input.new) (S.fault_count input.new) (E.written err.new) (E.fault_count err.new)) }
+    ensures clock { T.rules.clockless → clock.new ≡ clock.old }
     ensures kept_out { O.kept out.old out.new }
     ensures kept_err { E.kept err.old err.new }
 {

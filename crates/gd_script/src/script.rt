@@ -218,6 +218,7 @@ pub fn run_script<T: Interpreter, S: Source, O: Sink, E: Sink, V: Vault, C: Cloc
     ensures scripted { Scripted T.rules result.status result.turns
         (objects (scene session.old (V.view_of vault.old) (O.written out.old) (O.fault_count out.old) (C.told clock.old) (C.fault_count clock.old)) (S.left input.old) (S.fault_count input.old) (E.written err.old) (E.fault_count err.old))
         (objects (scene session.new (V.view_of vault.new) (O.written out.new) (O.fault_count out.new) (C.told clock.new) (C.fault_count clock.new)) (S.left input.new) (S.fault_count input.new) (E.written err.new) (E.fault_count err.new)) }
+    ensures clock { T.rules.clockless → clock.new ≡ clock.old }
     ensures kept_out { O.kept out.old out.new }
     ensures kept_err { E.kept err.old err.new }
 {

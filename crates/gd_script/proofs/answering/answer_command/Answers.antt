@@ -9,6 +9,7 @@ returns g c =
     let s = c.answer-reply in record {
       ready = s.ensures.ready;
       steps = stepped_line g.T.Interpreter.rules c.args.command.now s.result.0 s.result.1 _ _ c.in_default.not-Nothing s.ensures.steps;
+      clock = s.ensures.clock;
       quits = c.is_quit.ensures;
       kept = s.ensures.kept;
     }

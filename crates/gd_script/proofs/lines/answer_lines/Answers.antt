@@ -1,3 +1,4 @@
+use Rattle.std.proofs.Common.{refl, ◌∙◌}
 use Rattle.gd_script.specs.Answers.{scene}
 use Rattle.gd_script.specs.Reading.{reading}
 use Rattle.gd_script.specs.Turns.{objects}
@@ -13,6 +14,7 @@ lines-init g c =
           c.requires.ready c.requires.none n.1 c.new-lines.ensures.taken,
       g.met.O.Sink.kept_self c.args.out.now,
       g.met.E.Sink.kept_self c.args.err.now,
+      λ none. refl,
     )
 
 pub returns-in-Some-clause-ended : goal.returns-in-Some-clause-ended
@@ -22,6 +24,9 @@ returns-in-Some-clause-ended g c =
     (objects (scene c.lines.session (g.V.Vault.view_of c.lines.vault) (g.O.Sink.written c.lines.out) (g.O.Sink.fault_count c.lines.out) (g.C.Clock.told c.lines.clock) (g.C.Clock.fault_count c.lines.clock)) (g.S.Source.left c.lines.input) (g.S.Source.fault_count c.lines.input) (g.E.Sink.written c.lines.err) (g.E.Sink.fault_count c.lines.err))
     (objects (scene c.answer_next.new.session (g.V.Vault.view_of c.answer_next.new.vault) (g.O.Sink.written c.answer_next.new.out) (g.O.Sink.fault_count c.answer_next.new.out) (g.C.Clock.told c.answer_next.new.clock) (g.C.Clock.fault_count c.answer_next.new.clock)) (g.S.Source.left c.answer_next.new.input) (g.S.Source.fault_count c.answer_next.new.input) (g.E.Sink.written c.answer_next.new.err) (g.E.Sink.fault_count c.answer_next.new.err))
     c.lines.invariant.1 c.in-Some.ensures.nexts
+
+pub returns-in-Some-clause-clock : goal.returns-in-Some-clause-clock
+returns-in-Some-clause-clock g c = λ none. c.answer_next.ensures.clock none ∙ c.lines.invariant.4 none
 
 pub lines-smaller : goal.lines-smaller
 lines-smaller g c =
@@ -40,4 +45,5 @@ lines-preserved g c = (
       c.lines.invariant.1 c.in-None.ensures.nexts c.answer_next.ensures.ready,
   g.met.O.Sink.kept_on c.args.out.now c.lines.out c.answer_next.new.out c.lines.invariant.2 c.answer_next.ensures.kept_out,
   g.met.E.Sink.kept_on c.args.err.now c.lines.err c.answer_next.new.err c.lines.invariant.3 c.answer_next.ensures.kept_err,
+  λ none. c.answer_next.ensures.clock none ∙ c.lines.invariant.4 none,
 )
