@@ -106,6 +106,7 @@ pub fn script<S: Source, O: Sink, E: Sink, V: Vault, C: Clock>(
     ensures scripts { Scripts (map string_bytes words.now) result.status result.turns
         (devices (S.left input.old) (S.fault_count input.old) (O.written out.old) (O.fault_count out.old) (E.written err.old) (E.fault_count err.old) (V.view_of vault.old) (C.told clock.old) (C.fault_count clock.old))
         (devices (S.left input.new) (S.fault_count input.new) (O.written out.new) (O.fault_count out.new) (E.written err.new) (E.fault_count err.new) (V.view_of vault.new) (C.told clock.new) (C.fault_count clock.new)) }
+    ensures clock { clock.new ≡ clock.old }
     ensures later_out { O.fault_count out.old ≤ O.fault_count out.new }
     ensures later_err { E.fault_count err.old ≤ E.fault_count err.new }
     ensures kept_out { O.kept out.old out.new }
