@@ -188,7 +188,10 @@ is "a name with a comma, GNU" '#:file=a,b' "$("$gnu_dump" a,b | sed -n 3p)"
 "$gnu_dump" a,b >comma.txt
 is "it is refused by GNU" "1|gdbm_load: comma.txt:3: Malformed data" "$(told '' "$gnu_load" comma.txt l.gdbm)"
 is "a name with a comma, ours" '#:format=standard' "$("$bin/gdbm_dump" a,b | sed -n 3p)"
-is "gdbm_dump -H binary, ours" "3|gdbm_dump: usage error" "$(told '' "$bin/gdbm_dump" -H binary sound)"
+printf 'store k v\n' | "$bin/gdbmtool" -n pair
+is "the record of a binary dump, GNU" 00000001000000006b000000010000000076 "$("$gnu_dump" -H binary pair | tail -c 18 | od -An -v -tx1 | tr -d ' \n')"
+is "the record of a binary dump, ours" 000000016b0000000176 "$("$bin/gdbm_dump" -H binary pair | tail -c 10 | od -An -v -tx1 | tr -d ' \n')"
+is "the size of a binary dump, ours" 87 "$("$bin/gdbm_dump" --format=binary pair | wc -c)"
 is "gdbm_dump of two words, ours" "3|gdbm_dump: usage error" "$(told '' "$bin/gdbm_dump" sound other.txt)"
 cp sound itself
 "$gnu_dump" itself itself >out 2>&1

@@ -1,2 +1,2 @@
-# Completion of gdbm_dump for fish: names of files.
-complete -c gdbm_dump -F
+# Completion of gdbm_dump for fish: an option, and names of files.
+complete -c gdbm_dump -s H -l format -x -a 'ascii binary' -d 'The form of the dump'

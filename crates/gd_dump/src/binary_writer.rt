@@ -1,6 +1,6 @@
 //! The writer of binary dumps, which takes no memory and keeps nothing between its calls.
 
-ghost use Rattle.std.specs.Prelude.{◌≡◌, ◌<◌, ◌^◌, [], length};
+ghost use Rattle.std.specs.Prelude.{◌≡◌, [], length};
 ghost use Rattle.std.specs.Int.{w32, to_be_bytes};
 ghost use Rattle.gd_base.specs.Causes.{HasCause};
 ghost use Rattle.gd_base.specs.Pages.{Pends};
@@ -10,16 +10,15 @@ ghost use Rattle.gd_dump.specs.Binary.{binary_head, binary_pair, sized};
 use gd_base::{Failed, Format, Name, Page, Sink, flush, put};
 
 fn put_length<O: Sink>(page: &mut Page, len: usize, out: &mut O) -> Result<(), Failed>
-    requires { len < 2 ^ 32 }
     ensures bytes { Pends (O.written out.old) page.old.items (O.written out.new) page.new.items result (to_be_bytes w32 len) }
     ensures cause { HasCause (O.fault_count out.old) (O.fault_count out.new) result }
     ensures kept { O.kept out.old out.new }
 {
-    put(page, out, &(len as u32).to_be_bytes())
+    let [_, _, _, _, a, b, c, d] = (len as u64).to_be_bytes();
+    put(page, out, &[a, b, c, d])
 }
 
 fn put_sized<O: Sink>(page: &mut Page, bytes: &[u8], out: &mut O) -> Result<(), Failed>
-    requires { length bytes.now < 2 ^ 32 }
     ensures bytes { Pends (O.written out.old) page.old.items (O.written out.new) page.new.items result (sized bytes.now) }
     ensures cause { HasCause (O.fault_count out.old) (O.fault_count out.new) result }
     ensures kept { O.kept out.old out.new }
@@ -31,7 +30,8 @@ fn put_sized<O: Sink>(page: &mut Page, bytes: &[u8], out: &mut O) -> Result<(), 
 /// The calls write the parts of a dump one after another: one head and the pairs. A binary dump has no count, so its
 /// end is empty. The calls are divided as those of `AsciiWriter`.
 ///
-/// Each length is four bytes, the highest first. GNU dbm writes such lengths where its `long` has four bytes.
+/// Each length is four bytes, the highest first, so a key or a value has fewer than 2^32 bytes; of a longer one the four
+/// lowest bytes of its length would stand there. GNU dbm writes such lengths where its `long` has four bytes.
 pub struct BinaryWriter;
 
 impl BinaryWriter {
@@ -60,8 +60,6 @@ impl BinaryWriter {
         value: &[u8],
         out: &mut O,
     ) -> Result<(), Failed>
-        requires key { length key.now < 2 ^ 32 }
-        requires value { length value.now < 2 ^ 32 }
         ensures bytes { Pends (O.written out.old) page.old.items (O.written out.new) page.new.items result (binary_pair key.now value.now) }
         ensures cause { HasCause (O.fault_count out.old) (O.fault_count out.new) result }
         ensures kept { O.kept out.old out.new }
@@ -92,8 +90,6 @@ impl BinaryWriter {
 
     /// As `put_pair`, written at once.
     pub fn pair<O: Sink>(key: &[u8], value: &[u8], out: &mut O) -> Result<(), Failed>
-        requires key { length key.now < 2 ^ 32 }
-        requires value { length value.now < 2 ^ 32 }
         ensures bytes { Puts (O.written out.old) (O.written out.new) result (binary_pair key.now value.now) }
         ensures cause { HasCause (O.fault_count out.old) (O.fault_count out.new) result }
         ensures kept { O.kept out.old out.new }

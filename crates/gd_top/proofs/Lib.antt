@@ -1,5 +1,1 @@
-mod Ends
-mod Files
-mod Pairs
-mod Refusals
 mod Scripts

@@ -1,11 +1,12 @@
 -- The run of each program.
-use Rattle.std.specs.Prelude.{◌≡◌, ◌↔◌, ℕ, List, None}
+use Rattle.std.specs.Prelude.{◌≡◌, ℕ, List, None}
+use Rattle.gd_dumping.specs.Words.{reading}
 use Rattle.gd_script.specs.declared.turns.Turn.{Turn}
 use Rattle.gd_words.specs.Meaning.{tool_reading}
 use Rattle.gd_top.specs.Devices.{Devices}
 use Rattle.gd_top.specs.Dump.{Dumps}
 use Rattle.gd_top.specs.Tool.{Scripts}
-use Rattle.gd_top.specs.Words.{Text, reading}
+use Rattle.gd_top.specs.Words.{Text}
 use Rattle.gd_top.specs.declared.Tool.{Tool}
 use Rattle.gd_top.specs.declared.Tool.TheVariants.{Dump, Gdbmtool}
 

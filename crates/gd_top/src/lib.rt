@@ -1,23 +1,15 @@
 //! The programs as one call, and the host's objects over which they make it.
 #![tactic(auto)]
 
-ghost use Rattle.std.specs.Prelude.{◌≡◌, ◌≤◌, ◌↔◌, None, map, string_bytes};
-ghost use Rattle.gd_base.specs.Causes.{Rose};
-ghost use Rattle.gd_vault.specs.Views.{OnlyAsks};
-ghost use Rattle.gd_top.specs.declared.ending.Ending.{Ending};
+ghost use Rattle.std.specs.Prelude.{◌≡◌, ◌≤◌, map, string_bytes};
 ghost use Rattle.gd_top.specs.Devices.{devices};
-ghost use Rattle.gd_top.specs.Dump.{Counted, DumpEnds, Ends, IsQuiet};
 ghost use Rattle.gd_top.specs.Run.{IsRefused, Runs};
-ghost use Rattle.gd_top.specs.Words.{reading};
 
-mod dump;
-mod ending;
 mod scripting;
-mod words;
 
-use dump::dump;
-pub use ending::{Ending, report};
 use gd_base::{Clock, Sink, Source};
+use gd_dumping::dump_by_words;
+pub use gd_dumping::{Ending, report};
 pub use gd_host::{HostClock, HostSink, HostSource, HostVault, host_words};
 pub use gd_script::Turns;
 use gd_vault::Vault;
@@ -25,15 +17,13 @@ pub use gd_words::Refusal as ToolRefusal;
 pub use scripting::refuse;
 use scripting::script;
 use std::alloc::Global;
-pub use words::Refusal;
-use words::name_of;
 
 /// Which program runs.
 #[derive(Clone, Copy, Debug, PartialEq, Eq)]
 pub enum Tool {
     /// `gdbmtool [OPTION..] [DB]` answers the commands of its input.
     Gdbmtool,
-    /// `gdbm_dump DB` prints the ASCII dump of a database file.
+    /// `gdbm_dump [-H FORM] DB` prints the dump of a database file.
     Dump,
 }
 
@@ -46,47 +36,6 @@ pub struct Outcome {
     pub status: u8,
     /// The turns of `gdbmtool`, one an answered line; `gdbm_dump` has none.
     pub turns: Turns,
-}
-
-// Dumps the file that the words name.
-fn dump_words<O: Sink, V: Vault>(
-    alloc: Global,
-    words: &[String],
-    out: &mut O,
-    vault: &mut V,
-) -> Ending
-    ensures ends { Ends result (reading (map string_bytes words.now)) (V.view_of vault.old) (Rose (V.view_of vault.old).faults (V.view_of vault.new).faults) (Rose (O.fault_count out.old) (O.fault_count out.new)) (O.written out.old) (O.written out.new) }
-    ensures counted { Counted result (V.view_of vault.old).faults (V.view_of vault.new).faults (O.fault_count out.old) (O.fault_count out.new) }
-    ensures asks { OnlyAsks (V.view_of vault.old) (V.view_of vault.new) }
-    ensures later { O.fault_count out.old ≤ O.fault_count out.new }
-    ensures kept { O.kept out.old out.new }
-{
-    match name_of(alloc, words) {
-        Ok(name) => dump(alloc, &name, out, vault),
-        Err(Refusal::Usage) => Ending::Misused,
-        Err(Refusal::Memory) => Ending::Starved,
-    }
-}
-
-// Dumps the file that the words name, and says how that ended. Answers the status.
-fn dump_run<O: Sink, E: Sink, V: Vault>(
-    alloc: Global,
-    words: &[String],
-    out: &mut O,
-    err: &mut E,
-    vault: &mut V,
-) -> u8
-    ensures usage { (result ≡ 3) ↔ (reading (map string_bytes words.now) ≡ None) }
-    ensures ends { DumpEnds (map string_bytes words.now) result (V.view_of vault.old) (V.view_of vault.new) (O.fault_count out.old) (O.fault_count out.new) (O.written out.old) (O.written out.new) (E.fault_count err.old) (E.fault_count err.new) (E.written err.old) (E.written err.new) }
-    ensures quiet { IsQuiet result → ((V.view_of vault.new).faults ≡ (V.view_of vault.old).faults) × (O.fault_count out.new ≡ O.fault_count out.old) × (E.fault_count err.new ≡ E.fault_count err.old) }
-    ensures asks { OnlyAsks (V.view_of vault.old) (V.view_of vault.new) }
-    ensures later_out { O.fault_count out.old ≤ O.fault_count out.new }
-    ensures later_err { E.fault_count err.old ≤ E.fault_count err.new }
-    ensures kept_out { O.kept out.old out.new }
-    ensures kept_err { E.kept err.old err.new }
-{
-    let ending = dump_words(alloc, words, out, vault);
-    report(err, ending)
 }
 
 /// Runs a tool with the words after its name.
@@ -123,7 +72,7 @@ pub fn run<S: Source, O: Sink, E: Sink, V: Vault, C: Clock>(
             }
         }
         Tool::Dump => Outcome {
-            status: dump_run(alloc, words, out, err, vault),
+            status: dump_by_words(alloc, words, out, err, vault),
             turns: Turns::new(alloc),
         },
     }

@@ -1,4 +1,4 @@
-//! `gdbm_dump DB` prints the ASCII dump of a database file.
+//! `gdbm_dump [-H FORM] DB` prints the dump of a database file.
 #![tactic(auto)]
 
 use gd_top::{Ending, HostClock, HostSink, HostSource, HostVault, Tool, host_words, report, run};

@@ -3,10 +3,10 @@ use Rattle.gd_top.proofs.run.Goals as goal
 
 pub returns-in-Dump-clause-runs : goal.returns-in-Dump-clause-runs
 returns-in-Dump-clause-runs g c = rw c.in-Dump.is record {
-  usage = c.dump_run.ensures.usage;
-  ends = c.dump_run.ensures.ends;
-  quiet = c.dump_run.ensures.quiet;
-  asks = c.dump_run.ensures.asks;
+  usage = c.dump_by_words.ensures.usage;
+  ends = c.dump_by_words.ensures.ends;
+  quiet = c.dump_by_words.ensures.quiet;
+  asks = c.dump_by_words.ensures.asks;
   left = refl;
   input_faults = refl;
   told = refl;

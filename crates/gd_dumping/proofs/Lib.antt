@@ -1,0 +1,4 @@
+mod Ends
+mod Files
+mod Refusals
+mod Texts
