@@ -3,6 +3,7 @@ mod Caused
 mod Changed
 mod Closed
 mod Commands
+mod Counting
 mod Encoded
 mod Fillings
 mod Firsts

@@ -1,6 +1,7 @@
 pub mod Answers
 pub mod Calls
 pub mod Closing
+pub mod Counted
 pub mod Due
 pub mod Filling
 pub mod Held

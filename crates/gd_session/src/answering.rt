@@ -1,8 +1,10 @@
 //! Requests to a database, which is opened first where none was opened yet.
 
-ghost use Rattle.std.specs.Prelude.{◌≡◌, ◌≤◌, ℕ, false, List, Option, OnOk, IfErr};
+ghost use Rattle.std.specs.Prelude.{◌≡◌, ◌≤◌, ℕ, false, List, Option, OnOk, IfOk, IfErr};
 ghost use Rattle.gd_vault.specs.Frame.{Within};
+ghost use Rattle.gd_readable.specs.Asks.{Counts};
 ghost use Rattle.gd_session.specs.Calls.{Answers, AnyFile, AnyName, IsReady, is_fresh, scene, words_reply};
+ghost use Rattle.gd_session.specs.Counted.{OutCounts, RequestCounts, VaultCounts};
 ghost use Rattle.gd_session.specs.Due.{Causes, changing, content_due, key_due, pair_due, phase_due, write_due};
 ghost use Rattle.gd_session.specs.Openings.{First, IsOpeningCause};
 ghost use Rattle.gd_session.specs.Requests.{IsProperRequest, keyed_due, keyed_kind, keyed_request, own_due, request_kind, request_row};
@@ -46,6 +48,8 @@ impl Session {
         ensures kept { O.kept out.old out.new }
         ensures answer { Answers (Needs (request_row request.now)) (scene self.old (V.view_of vault.old) (O.written out.old) (O.fault_count out.old)) (scene self.new (V.view_of vault.new) (O.written out.new) (O.fault_count out.new)) result }
         ensures cause { Causes (phase_due (own_due request.now) (seen self.old).phase) (request_kind request.now) (scene self.old (V.view_of vault.old) (O.written out.old) (O.fault_count out.old)) (scene self.new (V.view_of vault.new) (O.written out.new) (O.fault_count out.new)) result }
+        ensures counted { RequestCounts request.now result (V.view_of vault.old).faults (V.view_of vault.new).faults }
+        ensures sink { OutCounts result (O.fault_count out.old) (O.fault_count out.new) }
     {
         match request {
             Request::Count => self.count(vault, out),
@@ -72,6 +76,8 @@ impl Session {
         ensures first { First self.old self.new result (V.view_of vault.old) (V.view_of vault.new) }
         ensures grows { Within AnyFile AnyName (V.view_of vault.old) (V.view_of vault.new) }
         ensures cause { IfErr result (λ e. IsOpeningCause e (V.view_of vault.old).faults (V.view_of vault.new).faults) }
+        ensures answered { IfOk result (λ _. (V.view_of vault.new).faults ≡ (V.view_of vault.old).faults) }
+        ensures counted { IfErr result (λ e. Counts e (V.view_of vault.old).faults (V.view_of vault.new).faults) }
     {
         match self.phase {
             Phase::Fresh => {
@@ -98,6 +104,8 @@ impl Session {
         ensures kept { O.kept out.old out.new }
         ensures answer { Answers (Needs (request_row request.now)) (scene self.old (V.view_of vault.old) (O.written out.old) (O.fault_count out.old)) (scene self.new (V.view_of vault.new) (O.written out.new) (O.fault_count out.new)) result }
         ensures cause { Causes (phase_due (own_due request.now) (seen self.old).phase) (request_kind request.now) (scene self.old (V.view_of vault.old) (O.written out.old) (O.fault_count out.old)) (scene self.new (V.view_of vault.new) (O.written out.new) (O.fault_count out.new)) result }
+        ensures counted { RequestCounts request.now result (V.view_of vault.old).faults (V.view_of vault.new).faults }
+        ensures sink { OutCounts result (O.fault_count out.old) (O.fault_count out.new) }
     {
         match self.open_first(vault) {
             Ok(()) => self.answer_open(request, vault, out),
@@ -120,6 +128,8 @@ impl Session {
         ensures kept { O.kept out.old out.new }
         ensures answer { Answers (WithKey words.now (λ k. Needs (request_row (keyed_request keyed k)))) (scene self.old (V.view_of vault.old) (O.written out.old) (O.fault_count out.old)) (scene self.new (V.view_of vault.new) (O.written out.new) (O.fault_count out.new)) result }
         ensures cause { Causes (key_due words.now (keyed_due keyed) (seen self.old)) (keyed_kind keyed) (scene self.old (V.view_of vault.old) (O.written out.old) (O.fault_count out.old)) (scene self.new (V.view_of vault.new) (O.written out.new) (O.fault_count out.new)) result }
+        ensures counted { VaultCounts result (V.view_of vault.old).faults (V.view_of vault.new).faults }
+        ensures sink { OutCounts result (O.fault_count out.old) (O.fault_count out.new) }
     {
         match encode(self.alloc, &self.key_form, words) {
             Ok(key) => self.answer(&keyed.request(key), vault, out),
@@ -143,6 +153,8 @@ impl Session {
         ensures kept { O.kept out.old out.new }
         ensures answer { Answers (WithContent words.now (λ v. Needs (ToWrite (Stores how key v)))) (scene self.old (V.view_of vault.old) (O.written out.old) (O.fault_count out.old)) (scene self.new (V.view_of vault.new) (O.written out.new) (O.fault_count out.new)) result }
         ensures cause { Causes (content_due words.now write_due (seen self.old)) changing (scene self.old (V.view_of vault.old) (O.written out.old) (O.fault_count out.old)) (scene self.new (V.view_of vault.new) (O.written out.new) (O.fault_count out.new)) result }
+        ensures counted { VaultCounts result (V.view_of vault.old).faults (V.view_of vault.new).faults }
+        ensures sink { OutCounts result (O.fault_count out.old) (O.fault_count out.new) }
     {
         match encode(self.alloc, &self.content_form, words) {
             Ok(content) => self.answer(&Request::Store(how, key, content), vault, out),
@@ -166,6 +178,8 @@ impl Session {
         ensures kept { O.kept out.old out.new }
         ensures answer { Answers (WithPair key.now content.now (λ k v. Needs (ToWrite (Stores how k v)))) (scene self.old (V.view_of vault.old) (O.written out.old) (O.fault_count out.old)) (scene self.new (V.view_of vault.new) (O.written out.new) (O.fault_count out.new)) result }
         ensures cause { Causes (pair_due key.now content.now (seen self.old)) changing (scene self.old (V.view_of vault.old) (O.written out.old) (O.fault_count out.old)) (scene self.new (V.view_of vault.new) (O.written out.new) (O.fault_count out.new)) result }
+        ensures counted { VaultCounts result (V.view_of vault.old).faults (V.view_of vault.new).faults }
+        ensures sink { OutCounts result (O.fault_count out.old) (O.fault_count out.new) }
     {
         match encode(self.alloc, &self.key_form, key) {
             Ok(key) => self.answer_content(how, key, content, vault, out),

@@ -3,6 +3,7 @@
 ghost use Rattle.std.specs.Prelude.{◌≡◌, ◌≤◌, ℕ, false, None, Some, List, Option};
 ghost use Rattle.gd_vault.specs.Views.{OnlyAsks};
 ghost use Rattle.gd_session.specs.Calls.{Answers, IsReady, is_fresh, scene};
+ghost use Rattle.gd_session.specs.Counted.{OutCounts, VaultCounts};
 ghost use Rattle.gd_session.specs.Due.{Causes, ask_due, counting, phase_due, showing};
 ghost use Rattle.gd_session.specs.Rows.{Asks, Needs, count_row, fetch_row, first_row, next_row};
 ghost use Rattle.gd_session.specs.State.{seen};
@@ -27,6 +28,8 @@ impl Session {
         ensures kept { O.kept out.old out.new }
         ensures answer { Answers (Needs (Asks count_row)) (scene self.old (V.view_of vault.old) (O.written out.old) (O.fault_count out.old)) (scene self.new (V.view_of vault.new) (O.written out.new) (O.fault_count out.new)) result }
         ensures cause { Causes (phase_due ask_due (seen self.old).phase) counting (scene self.old (V.view_of vault.old) (O.written out.old) (O.fault_count out.old)) (scene self.new (V.view_of vault.new) (O.written out.new) (O.fault_count out.new)) result }
+        ensures counted { VaultCounts result (V.view_of vault.old).faults (V.view_of vault.new).faults }
+        ensures sink { OutCounts result (O.fault_count out.old) (O.fault_count out.new) }
     {
         let Phase::Open(store) = &mut self.phase else {
             return Reply::Refused(DbError::NotOpen);
@@ -53,6 +56,8 @@ impl Session {
         ensures kept { O.kept out.old out.new }
         ensures answer { Answers (Needs (Asks (fetch_row key.now))) (scene self.old (V.view_of vault.old) (O.written out.old) (O.fault_count out.old)) (scene self.new (V.view_of vault.new) (O.written out.new) (O.fault_count out.new)) result }
         ensures cause { Causes (phase_due ask_due (seen self.old).phase) showing (scene self.old (V.view_of vault.old) (O.written out.old) (O.fault_count out.old)) (scene self.new (V.view_of vault.new) (O.written out.new) (O.fault_count out.new)) result }
+        ensures counted { VaultCounts result (V.view_of vault.old).faults (V.view_of vault.new).faults }
+        ensures sink { OutCounts result (O.fault_count out.old) (O.fault_count out.new) }
     {
         let Phase::Open(store) = &mut self.phase else {
             return Reply::Refused(DbError::NotOpen);

@@ -3,6 +3,7 @@
 ghost use Rattle.std.specs.Prelude.{◌≡◌, ◌≢◌, ℕ, false, Option};
 ghost use Rattle.gd_vault.specs.Frame.{NoName, Within};
 ghost use Rattle.gd_session.specs.Calls.{Answers, IsReady, OpenFile, is_fresh, scene};
+ghost use Rattle.gd_session.specs.Counted.{VaultCounts};
 ghost use Rattle.gd_session.specs.Due.{Causes, moving, phase_due, write_due};
 ghost use Rattle.gd_session.specs.Rows.{Deletes, Needs, Stores, ToWrite};
 ghost use Rattle.gd_session.specs.State.{Text, seen};
@@ -32,6 +33,7 @@ impl Session {
         ensures frame { Within (OpenFile self.old.phase) NoName (V.view_of vault.old) (V.view_of vault.new) }
         ensures answer { (out : Option Text) (failed : ℕ) → Answers (Needs (ToWrite (Stores how key.now content.now))) (scene self.old (V.view_of vault.old) out failed) (scene self.new (V.view_of vault.new) out failed) result }
         ensures cause { (out : Option Text) (failed : ℕ) → Causes (phase_due write_due (seen self.old).phase) moving (scene self.old (V.view_of vault.old) out failed) (scene self.new (V.view_of vault.new) out failed) result }
+        ensures counted { VaultCounts result (V.view_of vault.old).faults (V.view_of vault.new).faults }
     {
         let Phase::Open(store) = &mut self.phase else {
             return Reply::Refused(DbError::NotOpen);
@@ -53,6 +55,7 @@ impl Session {
         ensures frame { Within (OpenFile self.old.phase) NoName (V.view_of vault.old) (V.view_of vault.new) }
         ensures answer { (out : Option Text) (failed : ℕ) → Answers (Needs (ToWrite (Deletes key.now))) (scene self.old (V.view_of vault.old) out failed) (scene self.new (V.view_of vault.new) out failed) result }
         ensures cause { (out : Option Text) (failed : ℕ) → Causes (phase_due write_due (seen self.old).phase) moving (scene self.old (V.view_of vault.old) out failed) (scene self.new (V.view_of vault.new) out failed) result }
+        ensures counted { VaultCounts result (V.view_of vault.old).faults (V.view_of vault.new).faults }
     {
         let Phase::Open(store) = &mut self.phase else {
             return Reply::Refused(DbError::NotOpen);

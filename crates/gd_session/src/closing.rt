@@ -1,12 +1,14 @@
 //! Closing a database.
 
-ghost use Rattle.std.specs.Prelude.{◌≡◌, ◌⊎◌, ◌≤◌, ℕ, None, Option};
+ghost use Rattle.std.specs.Prelude.{◌≡◌, ◌⊎◌, ◌≤◌, ℕ, None, Option, IfOk, IfErr};
 ghost use Rattle.gd_base.specs.Causes.{Rose};
 ghost use Rattle.gd_base.specs.declared.errors.DbError.TheVariants.{VaultFault};
+ghost use Rattle.gd_readable.specs.Asks.{Counts};
 ghost use Rattle.gd_session.specs.declared.reply.Reply.TheVariants.{Done, Refused};
 ghost use Rattle.gd_vault.specs.Frame.{Within};
 ghost use Rattle.gd_session.specs.Calls.{Answers, AnyFile, AnyName, IsReady, scene};
 ghost use Rattle.gd_session.specs.Closing.{CanClose, ClosesSynced, IsClosing, SyncsOpen};
+ghost use Rattle.gd_session.specs.Counted.{VaultCounts};
 ghost use Rattle.gd_session.specs.Due.{Causes, moving};
 ghost use Rattle.gd_session.specs.Rows.{Closes};
 ghost use Rattle.gd_session.specs.State.{Text};
@@ -24,6 +26,8 @@ pub(crate) fn close_phase<V: Vault>(phase: Phase, vault: &mut V) -> Result<(), D
     ensures closing { IsClosing phase result (V.view_of vault.old) (V.view_of vault.new) }
     ensures synced { SyncsOpen phase result (V.view_of vault.old) (V.view_of vault.new) }
     ensures grows { Within AnyFile AnyName (V.view_of vault.old) (V.view_of vault.new) }
+    ensures answered { IfOk result (λ _. (V.view_of vault.new).faults ≡ (V.view_of vault.old).faults) }
+    ensures counted { IfErr result (λ e. Counts e (V.view_of vault.old).faults (V.view_of vault.new).faults) }
 {
     match phase {
         Phase::Open(store) => store.close_file(vault),
@@ -41,6 +45,7 @@ impl Session {
         ensures cause { (out : Option Text) (failed : ℕ) → Causes None moving (scene self.old (V.view_of vault.old) out failed) (scene self.new (V.view_of vault.new) out failed) result }
         ensures fault { (result ≡ Done) ⊎ ((result ≡ Refused VaultFault) × Rose (V.view_of vault.old).faults (V.view_of vault.new).faults) }
         ensures synced { ClosesSynced self.old.phase result (V.view_of vault.old) (V.view_of vault.new) }
+        ensures counted { VaultCounts result (V.view_of vault.old).faults (V.view_of vault.new).faults }
     {
         let phase = mem::replace(&mut self.phase, Phase::Shut);
         self.last = None;

@@ -3,6 +3,7 @@
 ghost use Rattle.std.specs.Prelude.{◌≡◌, ◌≢◌, ◌≤◌, false, true, IfErr, IfOk, None};
 ghost use Rattle.gd_vault.specs.Frame.{Within};
 ghost use Rattle.gd_session.specs.Calls.{Answers, AnyFile, AnyName, IsReady, is_fresh, scene};
+ghost use Rattle.gd_session.specs.Counted.{OutCounts, VaultCounts};
 ghost use Rattle.gd_session.specs.Due.{Causes, counting, phase_due, write_due};
 ghost use Rattle.gd_session.specs.Filling.{Adds, FillCause, FilledFrom};
 ghost use Rattle.gd_session.specs.Rows.{Fills, Needs, ToWrite};
@@ -62,6 +63,8 @@ impl Session {
         ensures adds { Adds (key.now, content.now) self.old self.new (V.view_of vault.old) (V.view_of vault.new) result }
         ensures cause { IfErr result (λ reply. FillCause self.old self.new (V.view_of vault.old) (V.view_of vault.new) reply) }
         ensures calm { IfOk result (λ _. phase_due write_due (seen self.new).phase ≡ None) }
+        ensures answered { IfOk result (λ _. (V.view_of vault.new).faults ≡ (V.view_of vault.old).faults) }
+        ensures counted { IfErr result (λ reply. VaultCounts reply (V.view_of vault.old).faults (V.view_of vault.new).faults) }
     {
         let first = self.store(key, content, How::Insert, vault);
         if let Reply::Done = first {
@@ -92,6 +95,8 @@ impl Session {
         ensures grows { Within AnyFile AnyName (V.view_of vault.old) (V.view_of vault.new) }
         ensures filled { FilledFrom start count self.old self.new (V.view_of vault.old) (V.view_of vault.new) result }
         ensures cause { IfErr result (λ reply. FillCause self.old self.new (V.view_of vault.old) (V.view_of vault.new) reply) }
+        ensures answered { IfOk result (λ _. (V.view_of vault.new).faults ≡ (V.view_of vault.old).faults) }
+        ensures counted { IfErr result (λ reply. VaultCounts reply (V.view_of vault.old).faults (V.view_of vault.new).faults) }
     {
         let mut x = start;
         let mut counts = Counts {
@@ -128,6 +133,8 @@ impl Session {
         ensures kept { O.kept out.old out.new }
         ensures answer { Answers (Needs (ToWrite (Fills start count))) (scene self.old (V.view_of vault.old) (O.written out.old) (O.fault_count out.old)) (scene self.new (V.view_of vault.new) (O.written out.new) (O.fault_count out.new)) result }
         ensures cause { Causes (phase_due write_due (seen self.old).phase) counting (scene self.old (V.view_of vault.old) (O.written out.old) (O.fault_count out.old)) (scene self.new (V.view_of vault.new) (O.written out.new) (O.fault_count out.new)) result }
+        ensures counted { VaultCounts result (V.view_of vault.old).faults (V.view_of vault.new).faults }
+        ensures sink { OutCounts result (O.fault_count out.old) (O.fault_count out.new) }
     {
         if let Some(refusal) = self.write_refusal() {
             return refusal;

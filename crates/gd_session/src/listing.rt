@@ -5,6 +5,7 @@ ghost use Rattle.gd_readable.specs.Standing.{StandsIn, left_of, slots_of_walk};
 ghost use Rattle.gd_store.specs.Opened.{OnFile};
 ghost use Rattle.gd_vault.specs.Views.{HasFile, OnlyAsks};
 ghost use Rattle.gd_session.specs.Calls.{Answers, IsReady, is_fresh, scene};
+ghost use Rattle.gd_session.specs.Counted.{ListCounts, OutCounts, VaultCounts};
 ghost use Rattle.gd_session.specs.Due.{Causes, ask_due, phase_due, showing};
 ghost use Rattle.gd_session.specs.Listing.{IsListCause, Listed, Lists};
 ghost use Rattle.gd_session.specs.Rows.{Needs};
@@ -37,6 +38,8 @@ impl Session {
         ensures kept { O.kept out.old out.new }
         ensures lines { OnFile (V.view_of vault.old) walk.old.f (λ file. Lists (seen self.now) (left_of file walk.old) result (O.written out.old) page.old.items (O.written out.new) page.new.items) }
         ensures cause { IsListCause result (V.view_of vault.old).faults (V.view_of vault.new).faults (O.fault_count out.old) (O.fault_count out.new) }
+        ensures counted { VaultCounts result (V.view_of vault.old).faults (V.view_of vault.new).faults }
+        ensures sink { OutCounts result (O.fault_count out.old) (O.fault_count out.new) }
     {
         'records: loop {
             let found = match walk.next(vault) {
@@ -80,6 +83,8 @@ impl Session {
         ensures kept { O.kept out.old out.new }
         ensures listed { OnFile (V.view_of vault.old) walk.old.f (λ file. Listed (seen self.now) (left_of file walk.old) result (O.written out.old) (O.written out.new)) }
         ensures cause { IsListCause result (V.view_of vault.old).faults (V.view_of vault.new).faults (O.fault_count out.old) (O.fault_count out.new) }
+        ensures counted { ListCounts result (V.view_of vault.old).faults (V.view_of vault.new).faults }
+        ensures sink { OutCounts result (O.fault_count out.old) (O.fault_count out.new) }
     {
         let mut page = Page::new();
         let reply = self.put_lines(&mut page, walk, vault, out);
@@ -106,6 +111,8 @@ impl Session {
         ensures kept { O.kept out.old out.new }
         ensures answer { Answers (Needs rows.Lists) (scene self.old (V.view_of vault.old) (O.written out.old) (O.fault_count out.old)) (scene self.new (V.view_of vault.new) (O.written out.new) (O.fault_count out.new)) result }
         ensures cause { Causes (phase_due ask_due (seen self.old).phase) showing (scene self.old (V.view_of vault.old) (O.written out.old) (O.fault_count out.old)) (scene self.new (V.view_of vault.new) (O.written out.new) (O.fault_count out.new)) result }
+        ensures counted { ListCounts result (V.view_of vault.old).faults (V.view_of vault.new).faults }
+        ensures sink { OutCounts result (O.fault_count out.old) (O.fault_count out.new) }
     {
         let Phase::Open(store) = &self.phase else {
             return Reply::Refused(DbError::NotOpen);

@@ -3,6 +3,7 @@
 ghost use Rattle.std.specs.Prelude.{◌≡◌, ◌⊎◌, ◌≤◌, ℕ, false, None, IfOk, Option};
 ghost use Rattle.gd_session.specs.Calls.{Answers, AnyFile, AnyName, IsReady, scene, string_form};
 ghost use Rattle.gd_session.specs.Closing.{ClosesSynced};
+ghost use Rattle.gd_session.specs.Counted.{VaultCounts};
 ghost use Rattle.gd_session.specs.Due.{Causes, moving};
 ghost use Rattle.gd_session.specs.Rows.{Closes};
 ghost use Rattle.gd_base.specs.Causes.{Rose};
@@ -68,6 +69,7 @@ impl Session {
         ensures fault { (result ≡ Done) ⊎ ((result ≡ Refused VaultFault) × Rose (V.view_of vault.old).faults (V.view_of vault.new).faults) }
         ensures synced { ClosesSynced self.old.phase result (V.view_of vault.old) (V.view_of vault.new) }
         ensures grows { Within AnyFile AnyName (V.view_of vault.old) (V.view_of vault.new) }
+        ensures counted { VaultCounts result (V.view_of vault.old).faults (V.view_of vault.new).faults }
     {
         self.close(vault)
     }

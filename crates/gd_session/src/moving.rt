@@ -4,6 +4,7 @@ ghost use Rattle.std.specs.Prelude.{◌≡◌, ◌≤◌, ℕ, None, Option};
 ghost use Rattle.gd_vault.specs.Frame.{Within};
 ghost use Rattle.gd_session.specs.Calls.{Answers, AnyFile, AnyName, IsReady, scene};
 ghost use Rattle.gd_session.specs.Closing.{ClosesFirst};
+ghost use Rattle.gd_session.specs.Counted.{VaultCounts};
 ghost use Rattle.gd_session.specs.Due.{Causes, moving};
 ghost use Rattle.gd_session.specs.Proper.{IsProperName};
 ghost use Rattle.gd_session.specs.Rows.{Reopens};
@@ -38,6 +39,7 @@ impl Session {
         ensures answer { (out : Option Text) (failed : ℕ) → Answers (Reopens name.now) (scene self.old (V.view_of vault.old) out failed) (scene self.new (V.view_of vault.new) out failed) result }
         ensures cause { (out : Option Text) (failed : ℕ) → Causes None moving (scene self.old (V.view_of vault.old) out failed) (scene self.new (V.view_of vault.new) out failed) result }
         ensures closes { ClosesFirst self.old.phase result (V.view_of vault.old) (V.view_of vault.new) }
+        ensures counted { VaultCounts result (V.view_of vault.old).faults (V.view_of vault.new).faults }
     {
         set_name(&mut self.settings.file, name);
         let phase = mem::replace(&mut self.phase, Phase::Shut);

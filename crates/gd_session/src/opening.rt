@@ -1,6 +1,7 @@
 //! Opening a database by its name.
 
-ghost use Rattle.std.specs.Prelude.{◌≡◌, ◌≤◌, IfErr};
+ghost use Rattle.std.specs.Prelude.{◌≡◌, ◌≤◌, IfOk, IfErr};
+ghost use Rattle.gd_readable.specs.Asks.{Counts};
 ghost use Rattle.gd_vault.specs.Frame.{Within};
 ghost use Rattle.gd_session.specs.Calls.{AnyFile, AnyName};
 ghost use Rattle.gd_session.specs.Openings.{IsOpening, IsOpeningCause, OpensByName, SpoilsByName};
@@ -25,6 +26,8 @@ fn open_there<V: Vault>(
     ensures opening { IsOpening (Checks settings.now access) Unspoiled settings.now.file result (V.view_of vault.old) (V.view_of vault.new) }
     ensures grows { Within AnyFile AnyName (V.view_of vault.old) (V.view_of vault.new) }
     ensures cause { IfErr result (λ e. IsOpeningCause e (V.view_of vault.old).faults (V.view_of vault.new).faults) }
+    ensures answered { IfOk result (λ _. (V.view_of vault.new).faults ≡ (V.view_of vault.old).faults) }
+    ensures counted { IfErr result (λ e. Counts e (V.view_of vault.old).faults (V.view_of vault.new).faults) }
 {
     Store::open_file(alloc, vault, &settings.file, access, settings.cache)
 }
@@ -37,6 +40,8 @@ fn make<V: Vault>(alloc: Global, settings: &Settings, vault: &mut V) -> Result<S
     ensures opening { IsOpening (Makes settings.now) (Spoiled settings.now) settings.now.file result (V.view_of vault.old) (V.view_of vault.new) }
     ensures grows { Within AnyFile AnyName (V.view_of vault.old) (V.view_of vault.new) }
     ensures cause { IfErr result (λ e. IsOpeningCause e (V.view_of vault.old).faults (V.view_of vault.new).faults) }
+    ensures answered { IfOk result (λ _. (V.view_of vault.new).faults ≡ (V.view_of vault.old).faults) }
+    ensures counted { IfErr result (λ e. Counts e (V.view_of vault.old).faults (V.view_of vault.new).faults) }
 {
     Store::create(
         alloc,
@@ -60,6 +65,8 @@ fn open_or_make<V: Vault>(
     ensures opening { IsOpening (OpensByName settings.now) (SpoilsByName settings.now) settings.now.file result (V.view_of vault.old) (V.view_of vault.new) }
     ensures grows { Within AnyFile AnyName (V.view_of vault.old) (V.view_of vault.new) }
     ensures cause { IfErr result (λ e. IsOpeningCause e (V.view_of vault.old).faults (V.view_of vault.new).faults) }
+    ensures answered { IfOk result (λ _. (V.view_of vault.new).faults ≡ (V.view_of vault.old).faults) }
+    ensures counted { IfErr result (λ e. Counts e (V.view_of vault.old).faults (V.view_of vault.new).faults) }
 {
     match vault.lookup(&settings.file) {
         Ok(Some(_)) => open_there(alloc, settings, Access::Writer, vault),
@@ -80,6 +87,8 @@ pub(crate) fn open_named<V: Vault>(
     ensures opening { IsOpening (Opens settings.now) (Spoils settings.now) settings.now.file result (V.view_of vault.old) (V.view_of vault.new) }
     ensures grows { Within AnyFile AnyName (V.view_of vault.old) (V.view_of vault.new) }
     ensures cause { IfErr result (λ e. IsOpeningCause e (V.view_of vault.old).faults (V.view_of vault.new).faults) }
+    ensures answered { IfOk result (λ _. (V.view_of vault.new).faults ≡ (V.view_of vault.old).faults) }
+    ensures counted { IfErr result (λ e. Counts e (V.view_of vault.old).faults (V.view_of vault.new).faults) }
 {
     match settings.opening {
         Opening::NewDb => make(alloc, settings, vault),

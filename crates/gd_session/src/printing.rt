@@ -5,6 +5,7 @@ ghost use Rattle.std.specs.Fmt.{decimal};
 ghost use Rattle.gd_base.specs.Causes.{HasCause};
 ghost use Rattle.gd_base.specs.Pages.{Pends};
 ghost use Rattle.gd_base.specs.Streams.{Puts};
+ghost use Rattle.gd_session.specs.Counted.{OutCounts};
 ghost use Rattle.gd_session.specs.Said.{Said};
 ghost use Rattle.gd_session.specs.Texts.{counts_text, line};
 
@@ -17,6 +18,7 @@ pub(crate) fn say_text<O: Sink>(text: &[u8], out: &mut O) -> Reply
     ensures said { Said text.now result (O.written out.old) (O.written out.new) (O.fault_count out.old) (O.fault_count out.new) }
     ensures later { O.fault_count out.old ≤ O.fault_count out.new }
     ensures kept { O.kept out.old out.new }
+    ensures sink { OutCounts result (O.fault_count out.old) (O.fault_count out.new) }
 {
     match write_all(out, text) {
         Ok(()) => Reply::Done,
@@ -63,6 +65,7 @@ pub(crate) fn say_number<O: Sink>(number: u64, out: &mut O) -> Reply
     ensures said { Said (line (decimal number)) result (O.written out.old) (O.written out.new) (O.fault_count out.old) (O.fault_count out.new) }
     ensures later { O.fault_count out.old ≤ O.fault_count out.new }
     ensures kept { O.kept out.old out.new }
+    ensures sink { OutCounts result (O.fault_count out.old) (O.fault_count out.new) }
 {
     match write_number_line(number, out) {
         Ok(()) => Reply::Done,
@@ -130,6 +133,7 @@ pub(crate) fn say_counts<O: Sink>(count: u64, counts: &Counts, out: &mut O) -> R
     ensures said { Said (counts_text count counts.now) result (O.written out.old) (O.written out.new) (O.fault_count out.old) (O.fault_count out.new) }
     ensures later { O.fault_count out.old ≤ O.fault_count out.new }
     ensures kept { O.kept out.old out.new }
+    ensures sink { OutCounts result (O.fault_count out.old) (O.fault_count out.new) }
 {
     match write_counts(count, counts, out) {
         Ok(()) => Reply::Done,

@@ -1,8 +1,10 @@
 //! Commands that print the record of a key.
 
-ghost use Rattle.std.specs.Prelude.{◌≡◌, ◌≤◌, false, List, Option, None, Some};
+ghost use Rattle.std.specs.Prelude.{◌≡◌, ◌≤◌, false, List, Option, None, Some, IfOk, IfErr};
 ghost use Rattle.gd_vault.specs.Views.{OnlyAsks};
+ghost use Rattle.gd_readable.specs.Asks.{Counts};
 ghost use Rattle.gd_session.specs.Calls.{Answers, IsReady, is_fresh, scene};
+ghost use Rattle.gd_session.specs.Counted.{OutCounts, VaultCounts};
 ghost use Rattle.gd_session.specs.Due.{Causes, ask_due, phase_due, showing};
 ghost use Rattle.gd_session.specs.Rows.{Asks, Needs, first_row, next_row};
 ghost use Rattle.gd_session.specs.Showing.{Finds, IsNextAt};
@@ -25,6 +27,8 @@ impl Session {
         ensures same { self.new ≡ self.old }
         ensures asks { OnlyAsks (V.view_of vault.old) (V.view_of vault.new) }
         ensures finds { Finds first_row self.old (V.view_of vault.old) (V.view_of vault.new) result }
+        ensures answered { IfOk result (λ _. (V.view_of vault.new).faults ≡ (V.view_of vault.old).faults) }
+        ensures counted { IfErr result (λ e. Counts e (V.view_of vault.old).faults (V.view_of vault.new).faults) }
     {
         let Phase::Open(store) = &mut self.phase else {
             return Err(DbError::NotOpen);
@@ -39,6 +43,8 @@ impl Session {
         ensures same { self.new ≡ self.old }
         ensures asks { OnlyAsks (V.view_of vault.old) (V.view_of vault.new) }
         ensures finds { Finds (next_row (Some key.now)) self.old (V.view_of vault.old) (V.view_of vault.new) result }
+        ensures answered { IfOk result (λ _. (V.view_of vault.new).faults ≡ (V.view_of vault.old).faults) }
+        ensures counted { IfErr result (λ e. Counts e (V.view_of vault.old).faults (V.view_of vault.new).faults) }
     {
         let Phase::Open(store) = &mut self.phase else {
             return Err(DbError::NotOpen);
@@ -53,6 +59,8 @@ impl Session {
         ensures same { self.new ≡ self.old }
         ensures asks { OnlyAsks (V.view_of vault.old) (V.view_of vault.new) }
         ensures finds { Finds (next_row self.old.last) self.old (V.view_of vault.old) (V.view_of vault.new) result }
+        ensures answered { IfOk result (λ _. (V.view_of vault.new).faults ≡ (V.view_of vault.old).faults) }
+        ensures counted { IfErr result (λ e. Counts e (V.view_of vault.old).faults (V.view_of vault.new).faults) }
     {
         let Phase::Open(store) = &mut self.phase else {
             return Err(DbError::NotOpen);
@@ -76,6 +84,8 @@ impl Session {
         ensures kept { O.kept out.old out.new }
         ensures answer { (row : State → List Pair → Ending) → IsNextAt row self.old (V.view_of vault.old) key → Answers (Needs (Asks row)) (scene self.old (V.view_of vault.old) (O.written out.old) (O.fault_count out.old)) (scene self.new (V.view_of vault.new) (O.written out.new) (O.fault_count out.new)) result }
         ensures cause { Causes (phase_due ask_due (seen self.old).phase) showing (scene self.old (V.view_of vault.old) (O.written out.old) (O.fault_count out.old)) (scene self.new (V.view_of vault.new) (O.written out.new) (O.fault_count out.new)) result }
+        ensures counted { VaultCounts result (V.view_of vault.old).faults (V.view_of vault.new).faults }
+        ensures sink { OutCounts result (O.fault_count out.old) (O.fault_count out.new) }
     {
         let Phase::Open(store) = &mut self.phase else {
             return Reply::Refused(DbError::NotOpen);
@@ -109,6 +119,8 @@ impl Session {
         ensures kept { O.kept out.old out.new }
         ensures answer { Answers (Needs (Asks first_row)) (scene self.old (V.view_of vault.old) (O.written out.old) (O.fault_count out.old)) (scene self.new (V.view_of vault.new) (O.written out.new) (O.fault_count out.new)) result }
         ensures cause { Causes (phase_due ask_due (seen self.old).phase) showing (scene self.old (V.view_of vault.old) (O.written out.old) (O.fault_count out.old)) (scene self.new (V.view_of vault.new) (O.written out.new) (O.fault_count out.new)) result }
+        ensures counted { VaultCounts result (V.view_of vault.old).faults (V.view_of vault.new).faults }
+        ensures sink { OutCounts result (O.fault_count out.old) (O.fault_count out.new) }
     {
         match self.first_key(vault) {
             Ok(key) => self.show(key, vault, out),
@@ -131,6 +143,8 @@ impl Session {
         ensures kept { O.kept out.old out.new }
         ensures answer { Answers (Needs (Asks (next_row (Some key.now)))) (scene self.old (V.view_of vault.old) (O.written out.old) (O.fault_count out.old)) (scene self.new (V.view_of vault.new) (O.written out.new) (O.fault_count out.new)) result }
         ensures cause { Causes (phase_due ask_due (seen self.old).phase) showing (scene self.old (V.view_of vault.old) (O.written out.old) (O.fault_count out.old)) (scene self.new (V.view_of vault.new) (O.written out.new) (O.fault_count out.new)) result }
+        ensures counted { VaultCounts result (V.view_of vault.old).faults (V.view_of vault.new).faults }
+        ensures sink { OutCounts result (O.fault_count out.old) (O.fault_count out.new) }
     {
         match self.key_after(key, vault) {
             Ok(key) => self.show(key, vault, out),
@@ -148,6 +162,8 @@ impl Session {
         ensures kept { O.kept out.old out.new }
         ensures answer { Answers (Needs (Asks (next_row self.old.last))) (scene self.old (V.view_of vault.old) (O.written out.old) (O.fault_count out.old)) (scene self.new (V.view_of vault.new) (O.written out.new) (O.fault_count out.new)) result }
         ensures cause { Causes (phase_due ask_due (seen self.old).phase) showing (scene self.old (V.view_of vault.old) (O.written out.old) (O.fault_count out.old)) (scene self.new (V.view_of vault.new) (O.written out.new) (O.fault_count out.new)) result }
+        ensures counted { VaultCounts result (V.view_of vault.old).faults (V.view_of vault.new).faults }
+        ensures sink { OutCounts result (O.fault_count out.old) (O.fault_count out.new) }
     {
         match self.key_after_last(vault) {
             Ok(key) => self.show(key, vault, out),

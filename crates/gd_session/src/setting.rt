@@ -7,6 +7,7 @@ ghost use Rattle.gd_base.specs.Pages.{Pends};
 ghost use Rattle.gd_base.specs.Streams.{Puts};
 ghost use Rattle.gd_types.specs.Printing.{printed};
 ghost use Rattle.gd_session.specs.Calls.{Answers, IsReady, scene};
+ghost use Rattle.gd_session.specs.Counted.{OutCounts};
 ghost use Rattle.gd_lang.specs.declared.commands.Setting.TheVariants as variables;
 ghost use Rattle.gd_session.specs.Due.{Causes, set_kind};
 ghost use Rattle.gd_session.specs.Proper.{IsProperOption, IsProperSetting};
@@ -148,6 +149,7 @@ fn say_variables<O: Sink>(settings: &Settings, out: &mut O) -> Reply
     ensures said { Said (variables_text settings.now) result (O.written out.old) (O.written out.new) (O.fault_count out.old) (O.fault_count out.new) }
     ensures later { O.fault_count out.old ≤ O.fault_count out.new }
     ensures kept { O.kept out.old out.new }
+    ensures sink { OutCounts result (O.fault_count out.old) (O.fault_count out.new) }
 {
     match write_variables(settings, out) {
         Ok(()) => Reply::Done,
@@ -206,6 +208,7 @@ impl Session {
         ensures kept { O.kept out.old out.new }
         ensures answer { Answers (Alone (set_row setting.now)) (scene self.old (V.view_of vault.now) (O.written out.old) (O.fault_count out.old)) (scene self.new (V.view_of vault.now) (O.written out.new) (O.fault_count out.new)) result }
         ensures cause { Causes None (set_kind setting.now) (scene self.old (V.view_of vault.now) (O.written out.old) (O.fault_count out.old)) (scene self.new (V.view_of vault.now) (O.written out.new) (O.fault_count out.new)) result }
+        ensures sink { OutCounts result (O.fault_count out.old) (O.fault_count out.new) }
     {
         match setting {
             None => say_variables(&self.settings, out),

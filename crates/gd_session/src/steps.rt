@@ -4,6 +4,7 @@ ghost use Rattle.std.specs.Prelude.{◌≡◌, ◌≤◌};
 ghost use Rattle.gd_vault.specs.Frame.{Within};
 ghost use Rattle.gd_session.specs.Calls.{AnswersWith, AnyFile, AnyName, IsReady, scene, unasked};
 ghost use Rattle.gd_session.specs.Closing.{ClosesIn};
+ghost use Rattle.gd_session.specs.Counted.{StepCounts};
 ghost use Rattle.gd_session.specs.Due.{CausedBy};
 ghost use Rattle.gd_session.specs.Proper.{IsProper};
 ghost use Rattle.gd_session.specs.Step.{Stepped};
@@ -38,6 +39,7 @@ impl Session {
         ensures clock { clock.new ≡ clock.old }
         ensures later { O.fault_count out.old ≤ O.fault_count out.new }
         ensures kept { O.kept out.old out.new }
+        ensures counted { StepCounts command.now result (V.view_of vault.old).faults (V.view_of vault.new).faults (O.fault_count out.old) (O.fault_count out.new) }
     {
         match command {
             Command::Nothing => Reply::Done,

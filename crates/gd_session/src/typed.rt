@@ -6,6 +6,7 @@ ghost use Rattle.gd_base.specs.Pages.{Pends};
 ghost use Rattle.gd_base.specs.Streams.{Puts};
 ghost use Rattle.gd_types.specs.Decoding.{datum_fault, datum_text, typed_text};
 ghost use Rattle.gd_types.specs.Members.{has_float};
+ghost use Rattle.gd_session.specs.Counted.{OutCounts};
 ghost use Rattle.gd_session.specs.Said.{Shows, misfit_of};
 ghost use Rattle.gd_session.specs.Texts.{line, spaced};
 
@@ -59,6 +60,7 @@ pub(crate) fn say_datum<O: Sink>(
     ensures shows { Shows (typed_text form.now bytes.now delim.now) result (O.written out.old) (O.written out.new) (O.fault_count out.old) (O.fault_count out.new) }
     ensures later { O.fault_count out.old ≤ O.fault_count out.new }
     ensures kept { O.kept out.old out.new }
+    ensures sink { OutCounts result (O.fault_count out.old) (O.fault_count out.new) }
 {
     if let Some(error) = check(form, bytes) {
         return Reply::Typed(error);
@@ -144,6 +146,7 @@ pub(crate) fn say_pair<O: Sink>(
     ensures shows { Shows (spaced (typed_text key_form.now key.now delim.now) (typed_text content_form.now content.now delim.now)) result (O.written out.old) (O.written out.new) (O.fault_count out.old) (O.fault_count out.new) }
     ensures later { O.fault_count out.old ≤ O.fault_count out.new }
     ensures kept { O.kept out.old out.new }
+    ensures sink { OutCounts result (O.fault_count out.old) (O.fault_count out.new) }
 {
     if let Some(error) = misfit(key_form, content_form, key, content) {
         return Reply::Typed(error);

@@ -5,6 +5,7 @@ use Rattle.gd_session.specs.Rows.{Needs, Stores, ToWrite}
 use Rattle.gd_session.specs.State.{Held}
 use Rattle.gd_session.proofs.Asked.{nothing_asked}
 use Rattle.gd_session.proofs.Encoded.{content_refused, typed_caused, with_content, words_caused}
+use Rattle.gd_session.proofs.Counting.{words_counts, words_out}
 use Rattle.gd_session.proofs.session.Session.answer_content.Goals as goal
 
 pub returns-in-Ok-clause-answer : goal.returns-in-Ok-clause-answer
@@ -26,3 +27,9 @@ pub returns-in-Err-clause-cause : goal.returns-in-Err-clause-cause
 returns-in-Err-clause-cause g c =
     let refuses = subst (λ (h : Held). Refuses c.in-Err.error (typed_bytes h.content_form c.args.words.now)) c.self.view_is c.in-Err.ensures in
     words_caused _ _ changing _ _ c.in-Err.error c.refused_words.result c.refused_words.ensures refuses refl refl refl
+
+pub returns-in-Err-clause-counted : goal.returns-in-Err-clause-counted
+returns-in-Err-clause-counted g c = words_counts c.in-Err.error c.refused_words.result _ c.refused_words.ensures
+
+pub returns-in-Err-clause-sink : goal.returns-in-Err-clause-sink
+returns-in-Err-clause-sink g c = words_out c.in-Err.error c.refused_words.result _ c.refused_words.ensures

@@ -7,6 +7,7 @@ use Rattle.gd_session.specs.Rows.{Needs}
 use Rattle.gd_session.specs.State.{Held, seen}
 use Rattle.gd_session.proofs.Asked.{nothing_asked}
 use Rattle.gd_session.proofs.Encoded.{key_refused, keyed_answer, keyed_caused, keyed_proper, keyed_quits, keyed_types, typed_caused, with_key, words_caused}
+use Rattle.gd_session.proofs.Counting.{keyed_counts, words_counts, words_out}
 use Rattle.gd_session.proofs.session.Session.answer_key.Goals as goal
 
 pub answer-requires-clause-proper : goal.answer-requires-clause-proper
@@ -31,3 +32,12 @@ pub returns-in-Err-clause-cause : goal.returns-in-Err-clause-cause
 returns-in-Err-clause-cause g c =
     let refuses = subst (λ (h : Held). Refuses c.in-Err.error (typed_bytes h.key_form c.args.words.now)) c.self.view_is c.in-Err.ensures in
     words_caused _ _ (keyed_kind c.args.keyed) _ _ c.in-Err.error c.refused_words.result c.refused_words.ensures refuses (keyed_quits c.args.keyed) (keyed_types c.args.keyed) refl
+
+pub returns-in-Ok-clause-counted : goal.returns-in-Ok-clause-counted
+returns-in-Ok-clause-counted g c = keyed_counts c.args.keyed _ c.in-Ok.key c.answer.result _ _ c.request.ensures c.answer.ensures.counted
+
+pub returns-in-Err-clause-counted : goal.returns-in-Err-clause-counted
+returns-in-Err-clause-counted g c = words_counts c.in-Err.error c.refused_words.result _ c.refused_words.ensures
+
+pub returns-in-Err-clause-sink : goal.returns-in-Err-clause-sink
+returns-in-Err-clause-sink g c = words_out c.in-Err.error c.refused_words.result _ c.refused_words.ensures

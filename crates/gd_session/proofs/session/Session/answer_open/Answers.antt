@@ -1,9 +1,10 @@
-use Rattle.std.proofs.Common.{Some, None, ap, ◌∙◌}
+use Rattle.std.proofs.Common.{Some, None, refl, ap, ◌∙◌}
 use Rattle.gd_session.specs.Due.{changing, moving}
 use Rattle.gd_session.proofs.Caused.{caused_wider, moving_changing}
 use Rattle.gd_session.proofs.Commands.{grows_asked, grows_wider}
 use Rattle.gd_session.proofs.Encoded.{next_answer, request_as, request_caused}
 use Rattle.gd_session.specs.declared.request.Request.TheVariants as requests
+use Rattle.gd_session.proofs.Counting.{out_none, request_counts}
 use Rattle.gd_session.proofs.session.Session.answer_open.Goals as goal
 
 pub returns-in-Count-clause-grows : goal.returns-in-Count-clause-grows
@@ -83,3 +84,36 @@ returns-in-Fill-clause-answer g c = request_as c.args.request.now _ _ _ c.fill.r
 
 pub returns-in-Fill-clause-cause : goal.returns-in-Fill-clause-cause
 returns-in-Fill-clause-cause g c = request_caused c.args.request.now _ _ _ _ c.fill.result c.in-Fill.is c.fill.ensures.cause
+
+pub returns-in-Count-clause-counted : goal.returns-in-Count-clause-counted
+returns-in-Count-clause-counted g c = request_counts c.args.request.now _ c.count.result _ _ c.in-Count.is c.count.ensures.counted
+
+pub returns-in-Fetch-clause-counted : goal.returns-in-Fetch-clause-counted
+returns-in-Fetch-clause-counted g c = request_counts c.args.request.now _ c.fetch.result _ _ c.in-Fetch.is c.fetch.ensures.counted
+
+pub returns-in-First-clause-counted : goal.returns-in-First-clause-counted
+returns-in-First-clause-counted g c = request_counts c.args.request.now _ c.first.result _ _ c.in-First.is c.first.ensures.counted
+
+pub returns-in-None-clause-counted : goal.returns-in-None-clause-counted
+returns-in-None-clause-counted g c = request_counts c.args.request.now (requests.Next None) c.next_last.result _ _ (c.in-Next.is ∙ ap requests.Next c.in-None.is) c.next_last.ensures.counted
+
+pub returns-in-Some-clause-counted : goal.returns-in-Some-clause-counted
+returns-in-Some-clause-counted g c = request_counts c.args.request.now (requests.Next (Some c.in-Some.key)) c.next.result _ _ (c.in-Next.is ∙ ap requests.Next c.in-Some.is) c.next.ensures.counted
+
+pub returns-in-List-clause-counted : goal.returns-in-List-clause-counted
+returns-in-List-clause-counted g c = request_counts c.args.request.now _ c.list.result _ _ c.in-List.is c.list.ensures.counted
+
+pub returns-in-Store-clause-counted : goal.returns-in-Store-clause-counted
+returns-in-Store-clause-counted g c = request_counts c.args.request.now _ c.store.result _ _ c.in-Store.is c.store.ensures.counted
+
+pub returns-in-Delete-clause-counted : goal.returns-in-Delete-clause-counted
+returns-in-Delete-clause-counted g c = request_counts c.args.request.now _ c.delete.result _ _ c.in-Delete.is c.delete.ensures.counted
+
+pub returns-in-Fill-clause-counted : goal.returns-in-Fill-clause-counted
+returns-in-Fill-clause-counted g c = request_counts c.args.request.now _ c.fill.result _ _ c.in-Fill.is c.fill.ensures.counted
+
+pub returns-in-Store-clause-sink : goal.returns-in-Store-clause-sink
+returns-in-Store-clause-sink g c = out_none _ moving _ _ c.store.result _ refl (c.store.ensures.cause None 0)
+
+pub returns-in-Delete-clause-sink : goal.returns-in-Delete-clause-sink
+returns-in-Delete-clause-sink g c = out_none _ moving _ _ c.delete.result _ refl (c.delete.ensures.cause None 0)

@@ -40,3 +40,10 @@ returns-clause-fault g c =
       | in-Ok w ↦ rw w.result-is (inl refl)
       | in-Err w ↦ rw w.result-is (inr (ap Refused w.in-Err.ensures.closing.1, w.in-Err.ensures.closing.2))
     ]
+
+pub returns-clause-counted : goal.returns-clause-counted
+returns-clause-counted g c =
+    elim c.match-close_phase.branch [
+      | in-Ok w ↦ rw w.result-is w.in-Ok.ensures.answered
+      | in-Err w ↦ rw w.result-is w.in-Err.ensures.counted
+    ]

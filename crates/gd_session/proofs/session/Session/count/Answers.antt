@@ -11,6 +11,7 @@ use Rattle.gd_session.proofs.Asked.{asks_answered, asks_refused, nothing_asked, 
 use Rattle.gd_session.proofs.Caused.{answered_caused, refused_caused, said_caused, scene_same, shut_caused}
 use Rattle.gd_session.proofs.Changed.{same_store}
 use Rattle.gd_session.proofs.Commands.{count_shown, held_phase, held_same, none_link, read_asking, seen_phase, shut_seen}
+use Rattle.gd_session.proofs.Counting.{said_counts}
 use Rattle.gd_session.proofs.session.Session.count.Goals as goal
 use Rattle.gd_session.proofs.session.Session.count.Goals.{in-Ok, in-Err}
 
@@ -25,6 +26,8 @@ returns-in_default g c =
       asks = asks;
       later = omega arith;
       kept = g.met.O.Sink.kept_self c.args.out.now;
+      counted = refl;
+      sink = refl;
       answer = shut_answer (Asks count_row) _ _ shut asks refl (ap seen c.self.view_is);
       cause = shut_caused ask_due counting _ _ refl shut (scene_same _ _ u u _ _ c.self.view_is refl);
     }
@@ -61,4 +64,18 @@ returns-clause-cause g c =
           (said_caused counting (line (decimal w.in-Ok.count)) _ _ w.say_number.result refl refl w.say_number.ensures.said))
       | in-Err w ↦ rw (w.result-is, w.out-is) (refused_caused counting is_of_read _ _ c.in-Open.store w.in-Err.error c.count.result _ w.in-Err.is refl refl refl refl q (λ b. (c.count.ensures.broken b).0)
           (λ b. scene_same _ _ _ _ _ _ back (c.count.ensures.broken b).2) (λ b. (w.in-Err.ensures.refused b).kind) (λ b. (w.in-Err.ensures.refused b).cause))
+    ]
+
+pub returns-clause-counted : goal.returns-clause-counted
+returns-clause-counted g c =
+    elim c.match-count.branch [
+      | in-Ok w ↦ rw w.result-is (said_counts _ w.say_number.result _ _ _ _ _ _ w.say_number.ensures.said w.in-Ok.ensures.answered)
+      | in-Err w ↦ rw w.result-is w.in-Err.ensures.counted
+    ]
+
+pub returns-clause-sink : goal.returns-clause-sink
+returns-clause-sink g c =
+    elim c.match-count.branch [
+      | in-Ok w ↦ rw (w.result-is, w.out-is) w.say_number.ensures.sink
+      | in-Err w ↦ rw (w.result-is, w.out-is) refl
     ]

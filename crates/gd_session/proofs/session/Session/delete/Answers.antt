@@ -24,6 +24,7 @@ returns-in_default g c =
       rest = rest_same _ _ c.self.view_is;
       opened = still_opened _ _ c.self.view_is c.requires.opened;
       frame = within_refl u;
+      counted = refl;
       answer = λ out failed. shut_answer (ToWrite (Deletes c.args.key.now)) _ _ shut asks refl (ap seen c.self.view_is);
       cause = λ out failed. shut_caused write_due moving _ _ refl shut (scene_same _ _ u u _ _ c.self.view_is refl);
     }
@@ -78,4 +79,11 @@ returns-clause-cause g c = λ out failed.
       | in-Err w ↦ rw w.result-is (change_refused moving is_of_deleting _ _ c.in-Open.store w.in-Err.error c.delete.result _ w.in-Err.is refl refl refl refl q (λ b. (e.broken b).0) (λ b. scene_same _ _ _ _ _ _ (held_same _ _ _ _ c.self.view_is c.in-Open.is (e.broken b).1) (e.broken b).2)
           (λ b a. (e.reader b a).0) (λ b a. scene_same _ _ _ _ _ _ (held_same _ _ _ _ c.self.view_is c.in-Open.is (e.reader b a).1) (e.reader b a).2)
           (λ b a. (w.in-Err.ensures.refused b a).kind) (λ b a. (w.in-Err.ensures.refused b a).cause))
+    ]
+
+pub returns-clause-counted : goal.returns-clause-counted
+returns-clause-counted g c =
+    elim c.match-delete.branch [
+      | in-Ok w ↦ rw w.result-is w.in-Ok.ensures.answered
+      | in-Err w ↦ rw w.result-is w.in-Err.ensures.counted
     ]

@@ -8,6 +8,7 @@ use Rattle.gd_session.proofs.Asked.{asks_answered, asks_refused, nothing_asked, 
 use Rattle.gd_session.proofs.Caused.{answered_caused, refused_caused, scene_same, shows_caused, shut_caused}
 use Rattle.gd_session.proofs.Changed.{same_store}
 use Rattle.gd_session.proofs.Commands.{absent_link, fetch_shown, held_phase, held_same, seen_phase, shows_for, shut_seen}
+use Rattle.gd_session.proofs.Counting.{shows_counts}
 use Rattle.gd_session.proofs.session.Session.fetch.Goals as goal
 use Rattle.gd_session.proofs.session.Session.fetch.Goals.{in-Ok, in-Err}
 
@@ -22,6 +23,8 @@ returns-in_default g c =
       asks = asks;
       later = omega arith;
       kept = g.met.O.Sink.kept_self c.args.out.now;
+      counted = refl;
+      sink = refl;
       answer = shut_answer (Asks (fetch_row c.args.key.now)) _ _ shut asks refl (ap seen c.self.view_is);
       cause = shut_caused ask_due showing _ _ refl shut (scene_same _ _ u u _ _ c.self.view_is refl);
     }
@@ -58,4 +61,18 @@ returns-clause-cause g c =
           (shows_caused showing _ _ _ w.say_datum.result refl refl refl w.say_datum.ensures.shows))
       | in-Err w ↦ rw (w.result-is, w.out-is) (refused_caused showing is_of_asking _ _ c.in-Open.store w.in-Err.error c.fetch.result _ w.in-Err.is refl refl refl refl q (λ b. (c.fetch.ensures.broken b).0)
           (λ b. scene_same _ _ _ _ _ _ back (c.fetch.ensures.broken b).2) (λ b. (w.in-Err.ensures.refused b).kind) (λ b. (w.in-Err.ensures.refused b).cause))
+    ]
+
+pub returns-clause-counted : goal.returns-clause-counted
+returns-clause-counted g c =
+    elim c.match-fetch.branch [
+      | in-Ok w ↦ rw w.result-is (shows_counts _ w.say_datum.result _ _ _ _ _ _ w.say_datum.ensures.shows w.in-Ok.ensures.answered)
+      | in-Err w ↦ rw w.result-is w.in-Err.ensures.counted
+    ]
+
+pub returns-clause-sink : goal.returns-clause-sink
+returns-clause-sink g c =
+    elim c.match-fetch.branch [
+      | in-Ok w ↦ rw (w.result-is, w.out-is) w.say_datum.ensures.sink
+      | in-Err w ↦ rw (w.result-is, w.out-is) refl
     ]

@@ -19,6 +19,8 @@ returns-in_default g c =
     record {
       same = c.self.view_is;
       asks = asks;
+      answered = tt;
+      counted = refl;
       finds = record {
         answer = λ out failed. shut_answer (Asks (next_row (Some c.args.key.now))) _ _ shut asks refl refl;
         cause = λ out failed. shut_caused ask_due showing _ _ refl shut refl;

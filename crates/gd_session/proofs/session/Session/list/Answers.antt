@@ -12,6 +12,7 @@ use Rattle.gd_session.proofs.Asked.{broken_answer, nothing_asked, open_at, ready
 use Rattle.gd_session.proofs.Caused.{shut_caused}
 use Rattle.gd_session.proofs.Commands.{asks_trans, held_phase, seen_phase, shut_seen}
 use Rattle.gd_session.proofs.Listings.{at_now, list_answer, list_refused}
+use Rattle.gd_session.proofs.Counting.{list_from}
 use Rattle.gd_session.proofs.session.Session.list.Goals as goal
 
 pub returns-in_default : goal.returns-in_default
@@ -25,6 +26,8 @@ returns-in_default g c =
       asks = asks;
       later = omega arith;
       kept = g.met.O.Sink.kept_self c.args.out.now;
+      counted = refl;
+      sink = refl;
       answer = shut_answer rows.Lists _ _ shut asks refl refl;
       cause = shut_caused ask_due showing _ _ refl shut refl;
     }
@@ -71,3 +74,6 @@ returns-clause-answer g c =
     subst (λ (ps : List Pair). Listed (seen c.args.self.now) ps r (g.O.Sink.written c.args.out.now) (g.O.Sink.written c.list_walk.new.out)) (c.in-Ok.ensures.records d told x here)
     (s.listed d x (ap content_of c.start.ensures.asks.told ∙ told) (ap d.files c.in-Ok.ensures.file ∙ here)))
     (subst (λ (n : ℕ). IsListCause r n (g.V.Vault.view_of c.list_walk.new.vault).faults (g.O.Sink.fault_count c.args.out.now) (g.O.Sink.fault_count c.list_walk.new.out)) c.in-Ok.ensures.answered s.cause)
+
+pub returns-clause-counted : goal.returns-clause-counted
+returns-clause-counted g c = list_from c.list_walk.result _ _ _ c.in-Ok.ensures.answered c.list_walk.ensures.counted

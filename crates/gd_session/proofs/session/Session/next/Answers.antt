@@ -5,6 +5,7 @@ use Rattle.gd_session.specs.State.{Held}
 use Rattle.gd_session.proofs.Asked.{ready_asked}
 use Rattle.gd_session.proofs.Commands.{asks_trans}
 use Rattle.gd_session.proofs.Keys.{found_answer, found_caused, not_found, not_found_caused}
+use Rattle.gd_session.proofs.Counting.{counts_from}
 use Rattle.gd_session.proofs.session.Session.next.Goals as goal
 
 pub show-requires-clause-ready : goal.show-requires-clause-ready
@@ -30,3 +31,6 @@ returns-in-Err-clause-answer g c = not_found (next_row (Some c.args.key.now)) c.
 
 pub returns-in-Err-clause-cause : goal.returns-in-Err-clause-cause
 returns-in-Err-clause-cause g c = not_found_caused (next_row (Some c.args.key.now)) c.args.self.now _ _ _ _ _ c.in-Err.error c.key_after.ensures.same c.in-Err.ensures.finds
+
+pub returns-in-Ok-clause-counted : goal.returns-in-Ok-clause-counted
+returns-in-Ok-clause-counted g c = counts_from c.show.result _ _ _ c.in-Ok.ensures.answered c.show.ensures.counted

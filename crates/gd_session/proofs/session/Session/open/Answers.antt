@@ -2,7 +2,9 @@ use Rattle.std.proofs.Common.{Ok, Err, refl, ap, ◌∙◌}
 use Rattle.gd_vault.proofs.Within.{within_trans}
 use Rattle.gd_session.proofs.Closed.{can_close, close_done_caused, close_failed_caused, ready_shut, synced_at}
 use Rattle.gd_session.specs.State.{Held}
+use Rattle.gd_session.specs.declared.reply.Reply.TheVariants.{Refused}
 use Rattle.gd_session.proofs.Reopened.{opened_at, refused_at, reopen_caused, reopen_refused, reopen_unclosed, reopened, settings_moved, state_open, state_shut}
+use Rattle.gd_session.proofs.Counting.{counts_from}
 use Rattle.gd_session.proofs.session.Session.open.Goals as goal
 
 pub close_phase-requires : goal.close_phase-requires
@@ -79,3 +81,9 @@ returns-in-Ok-clause-closes g c =
       closes = synced_at c.replace-phase.result c.args.self.now.phase _ _ _ same c.in_default.ensures.synced;
       behind = c.open_named.ensures.grows;
     }
+
+pub returns-in-Err-open_named-clause-counted : goal.returns-in-Err-open_named-clause-counted
+returns-in-Err-open_named-clause-counted g c = counts_from (Refused c.in-Err-open_named.error) _ _ _ c.in_default.ensures.answered c.in-Err-open_named.ensures.counted
+
+pub returns-in-Ok-clause-counted : goal.returns-in-Ok-clause-counted
+returns-in-Ok-clause-counted g c = c.in-Ok.ensures.answered ∙ c.in_default.ensures.answered

@@ -5,6 +5,7 @@ use Rattle.gd_session.specs.Texts.{Pair}
 use Rattle.gd_session.specs.declared.reply.Reply.TheVariants.{Done, Refused}
 use Rattle.gd_session.proofs.Commands.{grows_wider}
 use Rattle.gd_session.proofs.Fillings.{adds_new, adds_none, adds_not, adds_replaced, answers_as, calm_caused, calm_db, calm_has, calm_stays, done_calm, later_caused, there_calm}
+use Rattle.gd_session.proofs.Counting.{counts_done, counts_from, counts_there}
 use Rattle.gd_session.proofs.session.Session.put_pair.Goals as goal
 
 pub returns-in-Done-clause-grows : goal.returns-in-Done-clause-grows
@@ -29,6 +30,8 @@ returns-then-not-there g c =
           (calm_has _ c.args.self.now (calm_db c.args.self.now.phase c.requires.opened c.requires.calm) c.requires.ready) c.in_default.not-Done (c.is_there-there.ensures.other c.if-not-there.true) e.answer;
       cause = calm_caused c.args.self.now c.store-first.new.self _ _ c.store-first.result c.requires.calm e.cause;
       calm = tt;
+      answered = tt;
+      counted = e.counted;
     }
 
 pub returns-in-Done-store : goal.returns-in-Done-store
@@ -47,6 +50,8 @@ returns-in-Done-store g c =
           (answers_as Replace p c.store-first.new.self c.store.new.self _ _ c.store.result _ c.in-Done-store.is two.answer);
       cause = tt;
       calm = calm_stays c.store-first.new.self c.store.new.self (two.stays (done_calm c.store.result c.in-Done-store.is)) mid;
+      answered = counts_done c.store.result _ _ c.in-Done-store.is two.counted ∙ counts_there c.store-first.result _ _ is one.counted;
+      counted = tt;
     }
 
 pub returns-in_default-store : goal.returns-in_default-store
@@ -64,4 +69,9 @@ returns-in_default-store g c =
           (answers_as Insert p c.args.self.now c.store-first.new.self _ _ c.store-first.result _ is one.answer) two.answer;
       cause = later_caused c.args.self.now c.store-first.new.self c.store.new.self _ _ _ c.store.result one.frame.faults (calm_caused c.store-first.new.self c.store.new.self _ _ c.store.result mid two.cause);
       calm = tt;
+      answered = tt;
+      counted = counts_from c.store.result _ _ _ (counts_there c.store-first.result _ _ is one.counted) two.counted;
     }
+
+pub returns-in-Done-clause-answered : goal.returns-in-Done-clause-answered
+returns-in-Done-clause-answered g c = counts_done c.store-first.result _ _ c.in-Done.is c.store-first.ensures.counted

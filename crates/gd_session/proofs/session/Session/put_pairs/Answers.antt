@@ -3,6 +3,7 @@ use Rattle.gd_vault.proofs.Within.{within_refl, within_trans}
 use Rattle.gd_session.specs.Texts.{fill_pair, next_x, tally}
 use Rattle.gd_session.specs.declared.counts.Counts.{Counts}
 use Rattle.gd_session.proofs.Fillings.{adds_at, calm_db, calm_has, ended_so_far, fill_content, fill_key, first_so_far, later_caused, next_so_far, stopped_so_far, tally_bytes, tally_few}
+use Rattle.gd_session.proofs.Counting.{counts_from}
 use Rattle.gd_session.proofs.session.Session.put_pairs.Goals as goal
 
 pub pairs-init : goal.pairs-init
@@ -17,6 +18,7 @@ pairs-init g c =
       so_far = λ clock out d told. first_so_far c.args.start c.args.count c.args.self.now u calm (calm_has u c.args.self.now calm c.requires.ready) clock out d told;
       few = refl;
       bytes = omega arith;
+      answered = refl;
     }
 
 pub returns-in-Err-clause-grows : goal.returns-in-Err-clause-grows
@@ -54,6 +56,7 @@ pairs-preserved g c =
           (adds_at (fill_pair (next_x c.pairs.x)) _ _ c.pairs.self c.put_pair.new.self _ _ _ key content c.in-Ok.ensures.adds) size_is counts clock out d (old.so_far clock out d told);
       few = few ∙ ap (λ n. n + 1) old.few;
       bytes = omega (arith, bytes, old.bytes, c.len.ensures.fits, c.len-in-Ok.ensures.fits);
+      answered = c.in-Ok.ensures.answered ∙ old.answered;
     }
 
 pub returns-clause-filled : goal.returns-clause-filled
@@ -62,3 +65,9 @@ returns-clause-filled g c = λ clock out d told.
 
 pub returns-clause-grows : goal.returns-clause-grows
 returns-clause-grows g c = c.pairs.invariant.grows
+
+pub returns-in-Err-clause-counted : goal.returns-in-Err-clause-counted
+returns-in-Err-clause-counted g c = counts_from c.in-Err.reply _ _ _ c.pairs.invariant.answered c.in-Err.ensures.counted
+
+pub returns-clause-answered : goal.returns-clause-answered
+returns-clause-answered g c = c.pairs.invariant.answered

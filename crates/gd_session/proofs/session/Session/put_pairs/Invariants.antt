@@ -21,4 +21,5 @@ invariant-pairs g l =
       so_far : (clock out : ℕ) (c : Content) → content_of before.told ≡ Some c → SoFar l.start l.count l.x (l.count - l._i) l.counts l.fn.self l.self before view clock out c;
       few : l.counts.added + l.counts.replaced ≡ l._i;
       bytes : l.counts.bytes ≤ 128 * l._i;
+      answered : view.faults ≡ before.faults;
     }

@@ -13,6 +13,7 @@ use Rattle.gd_session.proofs.Caused.{answered_caused, caused_done, refused_cause
 use Rattle.gd_session.proofs.Changed.{same_store}
 use Rattle.gd_session.proofs.Commands.{held_phase, held_same, seen_phase, shut_seen}
 use Rattle.gd_session.proofs.Keys.{at_store, pair_for, printed_state, show_answered, show_refused}
+use Rattle.gd_session.proofs.Counting.{out_as, shows_counts}
 use Rattle.gd_session.proofs.session.Session.show.Goals as goal
 
 pub returns-in_default : goal.returns-in_default
@@ -25,6 +26,8 @@ returns-in_default g c =
       asks = asks;
       later = omega arith;
       kept = g.met.O.Sink.kept_self c.args.out.now;
+      counted = refl;
+      sink = refl;
       answer = λ row next. shut_answer (Asks row) _ _ shut asks refl (ap seen c.self.view_is);
       cause = shut_caused ask_due showing _ _ refl shut (scene_same _ _ u u _ _ c.self.view_is refl);
     }
@@ -98,3 +101,12 @@ returns-clause-cause g c =
     let q = seen_phase c.args.self.now c.in-Open.store (held_phase _ _ c.in-Open.store c.self.view_is c.in-Open.is) in
     answered_caused showing _ _ c.in-Open.store c.say_pair-reply.result c.in-Ok.content c.fetch.result c.in-Ok.is refl q (λ b. (c.fetch.ensures.broken b).0)
     (shows_caused showing _ _ _ c.say_pair-reply.result refl refl refl c.say_pair-reply.ensures.shows)
+
+pub returns-in-Done-clause-counted : goal.returns-in-Done-clause-counted
+returns-in-Done-clause-counted g c = c.in-Ok.ensures.answered
+
+pub returns-in-Done-clause-sink : goal.returns-in-Done-clause-sink
+returns-in-Done-clause-sink g c = out_as Done c.say_pair-reply.result _ _ (sym c.in-Done.is) c.say_pair-reply.ensures.sink
+
+pub returns-clause-counted : goal.returns-clause-counted
+returns-clause-counted g c = shows_counts _ c.say_pair-reply.result _ _ _ _ _ _ c.say_pair-reply.ensures.shows c.in-Ok.ensures.answered

@@ -1,9 +1,10 @@
 use Rattle.std.proofs.Common.{Some, None, refl, ap, ◌∙◌}
 use Rattle.gd_lang.specs.declared.commands.Command.TheVariants as commands
-use Rattle.gd_session.specs.Due.{silent}
+use Rattle.gd_session.specs.Due.{moving, set_kind, silent}
 use Rattle.gd_session.proofs.Caused.{caused_done}
 use Rattle.gd_session.proofs.Closed.{closes_as}
 use Rattle.gd_session.proofs.Encoded.{answered_as, caused_as, caused_quit, stays_as, version_answer, version_caused}
+use Rattle.gd_session.proofs.Counting.{out_none, said_counts, set_asks, step_counts, vault_none}
 use Rattle.gd_session.proofs.session.Session.step.Goals as goal
 
 pub returns-in-Nothing-clause-answer : goal.returns-in-Nothing-clause-answer
@@ -149,3 +150,51 @@ returns-in-Fill-clause-cause g c = caused_as c.args.command.now _ _ _ _ c.in-Fil
 
 pub returns-in-Fill-clause-closes : goal.returns-in-Fill-clause-closes
 returns-in-Fill-clause-closes g c = closes_as c.args.command.now _ _ _ _ _ c.in-Fill.is tt
+
+pub returns-in-Nothing-clause-counted : goal.returns-in-Nothing-clause-counted
+returns-in-Nothing-clause-counted g c = step_counts c.args.command.now commands.Nothing _ _ _ _ _ c.in-Nothing.is refl refl
+
+pub returns-in-Quit-clause-counted : goal.returns-in-Quit-clause-counted
+returns-in-Quit-clause-counted g c = step_counts c.args.command.now commands.Quit _ _ _ _ _ c.in-Quit.is refl refl
+
+pub returns-in-Version-clause-counted : goal.returns-in-Version-clause-counted
+returns-in-Version-clause-counted g c = step_counts c.args.command.now commands.Version c.say_text.result _ _ _ _ c.in-Version.is (said_counts _ c.say_text.result _ _ _ _ _ _ c.say_text.ensures.said refl) c.say_text.ensures.sink
+
+pub returns-in-Open-clause-counted : goal.returns-in-Open-clause-counted
+returns-in-Open-clause-counted g c = step_counts c.args.command.now _ c.open.result _ _ _ _ c.in-Open.is c.open.ensures.counted (out_none None moving _ _ c.open.result _ refl (c.open.ensures.cause None 0))
+
+pub returns-in-Close-clause-counted : goal.returns-in-Close-clause-counted
+returns-in-Close-clause-counted g c = step_counts c.args.command.now _ c.close.result _ _ _ _ c.in-Close.is c.close.ensures.counted (out_none None moving _ _ c.close.result _ refl (c.close.ensures.cause None 0))
+
+pub returns-in-Set-clause-counted : goal.returns-in-Set-clause-counted
+returns-in-Set-clause-counted g c = step_counts c.args.command.now _ c.set.result _ _ _ _ c.in-Set.is (vault_none None (set_kind c.in-Set.setting) _ _ c.set.result _ (set_asks c.in-Set.setting) c.set.ensures.cause) c.set.ensures.sink
+
+pub returns-in-Count-clause-counted : goal.returns-in-Count-clause-counted
+returns-in-Count-clause-counted g c = step_counts c.args.command.now _ c.answer.result _ _ _ _ c.in-Count.is c.answer.ensures.counted c.answer.ensures.sink
+
+pub returns-in-Fetch-clause-counted : goal.returns-in-Fetch-clause-counted
+returns-in-Fetch-clause-counted g c = step_counts c.args.command.now _ c.answer_key.result _ _ _ _ c.in-Fetch.is c.answer_key.ensures.counted c.answer_key.ensures.sink
+
+pub returns-in-First-clause-counted : goal.returns-in-First-clause-counted
+returns-in-First-clause-counted g c = step_counts c.args.command.now _ c.answer-in-First.result _ _ _ _ c.in-First.is c.answer-in-First.ensures.counted c.answer-in-First.ensures.sink
+
+pub returns-in-None-clause-counted : goal.returns-in-None-clause-counted
+returns-in-None-clause-counted g c = step_counts c.args.command.now (commands.Next None) c.answer-in-None.result _ _ _ _ (c.in-Next.is ∙ ap commands.Next c.in-None.is) c.answer-in-None.ensures.counted c.answer-in-None.ensures.sink
+
+pub returns-in-Some-clause-counted : goal.returns-in-Some-clause-counted
+returns-in-Some-clause-counted g c = step_counts c.args.command.now (commands.Next (Some c.in-Some.words)) c.answer_key-in-Some.result _ _ _ _ (c.in-Next.is ∙ ap commands.Next c.in-Some.is) c.answer_key-in-Some.ensures.counted c.answer_key-in-Some.ensures.sink
+
+pub returns-in-List-clause-counted : goal.returns-in-List-clause-counted
+returns-in-List-clause-counted g c = step_counts c.args.command.now _ c.answer-in-List.result _ _ _ _ c.in-List.is c.answer-in-List.ensures.counted c.answer-in-List.ensures.sink
+
+pub returns-in-Store-clause-counted : goal.returns-in-Store-clause-counted
+returns-in-Store-clause-counted g c = step_counts c.args.command.now _ c.answer_pair.result _ _ _ _ c.in-Store.is c.answer_pair.ensures.counted c.answer_pair.ensures.sink
+
+pub returns-in-Insert-clause-counted : goal.returns-in-Insert-clause-counted
+returns-in-Insert-clause-counted g c = step_counts c.args.command.now _ c.answer_pair-in-Insert.result _ _ _ _ c.in-Insert.is c.answer_pair-in-Insert.ensures.counted c.answer_pair-in-Insert.ensures.sink
+
+pub returns-in-Delete-clause-counted : goal.returns-in-Delete-clause-counted
+returns-in-Delete-clause-counted g c = step_counts c.args.command.now _ c.answer_key-in-Delete.result _ _ _ _ c.in-Delete.is c.answer_key-in-Delete.ensures.counted c.answer_key-in-Delete.ensures.sink
+
+pub returns-in-Fill-clause-counted : goal.returns-in-Fill-clause-counted
+returns-in-Fill-clause-counted g c = step_counts c.args.command.now _ c.answer-in-Fill.result _ _ _ _ c.in-Fill.is c.answer-in-Fill.ensures.counted c.answer-in-Fill.ensures.sink
