@@ -13,6 +13,3 @@ mod torn;
 mod vault;
 
 pub use memory::MemVault;
-
-#[cfg(test)]
-mod tests;
