@@ -33,6 +33,3 @@ pub use sink::HostSink;
 pub use source::HostSource;
 pub use vault::HostVault;
 pub use words::host_words;
-
-#[cfg(test)]
-mod tests;
