@@ -77,6 +77,3 @@ pub fn run<S: Source, O: Sink, E: Sink, V: Vault, C: Clock>(
         },
     }
 }
-
-#[cfg(test)]
-mod tests;
