@@ -121,5 +121,5 @@ syncs_as false Reader f r u v sync reader broken = reader refl
 syncs_as true Writer f r u v sync reader broken = broken refl
 syncs_as true Reader f r u v sync reader broken = broken refl
 
-pub closes_as : (command given : Command) (p : real.Phase) (r : Reply) (u v : View) → command ≡ given → ClosesIn given p r u v → ClosesIn command p r u v
-closes_as command given p r u v is h = subst (λ (k : Command). ClosesIn k p r u v) (sym is) h
+pub closes_as : (command given : Command) (s : Held) (r : Reply) (u v : View) → command ≡ given → ClosesIn given s r u v → ClosesIn command s r u v
+closes_as command given s r u v is h = subst (λ (k : Command). ClosesIn k s r u v) (sym is) h

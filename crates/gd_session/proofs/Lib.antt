@@ -7,6 +7,7 @@ mod Counting
 mod Encoded
 mod Fillings
 mod Firsts
+mod Framed
 mod Keys
 mod Listings
 mod Openings

@@ -5,17 +5,17 @@ use Rattle.gd_base.specs.declared.errors.DbError.{DbError}
 use Rattle.gd_base.specs.declared.errors.DbError.TheVariants.{VaultFault}
 use Rattle.gd_lang.specs.declared.commands.Command.{Command}
 use Rattle.gd_lang.specs.declared.commands.Command.TheVariants as commands
+use Rattle.gd_lang.specs.declared.commands.Opening.{Opening}
 use Rattle.gd_store.specs.Opened.{Opened}
 use Rattle.gd_store.specs.declared.access.Access.{Access}
 use Rattle.gd_store.specs.declared.access.Access.TheVariants.{Writer}
 use Rattle.gd_vault.specs.Changes.{Changed}
 use Rattle.gd_vault.specs.Content.{Content}
 use Rattle.gd_vault.specs.Events.Call.{Sync}
-use Rattle.gd_vault.specs.Frame.{Within}
 use Rattle.gd_vault.specs.Views.{View, HasFile, content_of}
-use Rattle.gd_session.specs.Calls.{AnyFile, AnyName}
+use Rattle.gd_session.specs.Frames.{OpensWithin}
 use Rattle.gd_session.specs.Rows.{Syncs}
-use Rattle.gd_session.specs.State.{phase_of}
+use Rattle.gd_session.specs.State.{Held, Text, named, phase_of}
 use Rattle.gd_session.specs.declared.phase.Phase as real
 use Rattle.gd_session.specs.declared.phase.Phase.TheVariants as phases
 use Rattle.gd_session.specs.declared.reply.Reply.{Reply}
@@ -54,20 +54,20 @@ ClosesSynced p Done u v = SyncsOpen p (Ok tt) u v
 ClosesSynced p (Refused e) u v = (e ≡ VaultFault) × SyncsOpen p (Err e) u v
 ClosesSynced p reply u v = ⊥
 
--- after the closing: what comes behind it, but nothing where it failed
-abbrev pub Behind : Result (Unit {0}) DbError → Reply → View → View → Type 0
-Behind (Ok x) reply mid v = Within AnyFile AnyName mid v
-Behind (Err e) reply mid v = (e ≡ VaultFault) × (reply ≡ Refused e) × (v ≡ mid)
+-- after the closing: an opening of the name, but nothing where it failed
+abbrev pub Behind : Result (Unit {0}) DbError → Opening → Text → Reply → View → View → Type 0
+Behind (Ok x) way name reply mid v = OpensWithin way name mid v
+Behind (Err e) way name reply mid v = (e ≡ VaultFault) × (reply ≡ Refused e) × (v ≡ mid)
 
--- the database that is open is closed before another one is opened
-pub record ClosesFirst (p : real.Phase) (reply : Reply) (u v : View) : Type 0 where
+-- the database that is open is closed before another one is opened, and nothing else happens
+pub record ClosesFirst (p : real.Phase) (way : Opening) (name : Text) (reply : Reply) (u v : View) : Type 0 where
   pub mid : View
   pub result : Result (Unit {0}) DbError
   pub closes : SyncsOpen p result u mid
-  pub behind : Behind result reply mid v
+  pub behind : Behind result way name reply mid v
 
 -- what a command does to the database that was open, where it closes it
-abbrev pub ClosesIn : Command → real.Phase → Reply → View → View → Type 0
-ClosesIn commands.Close p reply u v = ClosesSynced p reply u v
-ClosesIn (commands.Open name) p reply u v = ClosesFirst p reply u v
-ClosesIn command p reply u v = Unit {0}
+abbrev pub ClosesIn : Command → Held → Reply → View → View → Type 0
+ClosesIn commands.Close h reply u v = ClosesSynced h.phase reply u v
+ClosesIn (commands.Open name) h reply u v = ClosesFirst h.phase h.settings.opening (named name h.settings.file) reply u v
+ClosesIn command h reply u v = Unit {0}

@@ -4,6 +4,7 @@ pub mod Closing
 pub mod Counted
 pub mod Due
 pub mod Filling
+pub mod Frames
 pub mod Held
 pub mod Listing
 pub mod Openings

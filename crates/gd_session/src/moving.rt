@@ -38,7 +38,7 @@ impl Session {
         ensures grows { Within AnyFile AnyName (V.view_of vault.old) (V.view_of vault.new) }
         ensures answer { (out : Option Text) (failed : ℕ) → Answers (Reopens name.now) (scene self.old (V.view_of vault.old) out failed) (scene self.new (V.view_of vault.new) out failed) result }
         ensures cause { (out : Option Text) (failed : ℕ) → Causes None moving (scene self.old (V.view_of vault.old) out failed) (scene self.new (V.view_of vault.new) out failed) result }
-        ensures closes { ClosesFirst self.old.phase result (V.view_of vault.old) (V.view_of vault.new) }
+        ensures closes { ClosesFirst self.old.phase self.old.settings.opening (named name.now self.old.settings.file) result (V.view_of vault.old) (V.view_of vault.new) }
         ensures counted { VaultCounts result (V.view_of vault.old).faults (V.view_of vault.new).faults }
     {
         set_name(&mut self.settings.file, name);

@@ -3,7 +3,9 @@
 ghost use Rattle.std.specs.Prelude.{◌≡◌, ◌≤◌, IfOk, IfErr};
 ghost use Rattle.gd_readable.specs.Asks.{Counts};
 ghost use Rattle.gd_vault.specs.Frame.{Within};
+ghost use Rattle.gd_vault.specs.Views.{OnlyAsks};
 ghost use Rattle.gd_session.specs.Calls.{AnyFile, AnyName};
+ghost use Rattle.gd_session.specs.Frames.{MakesWithin, OpensOrMakesWithin, OpensWithin};
 ghost use Rattle.gd_session.specs.Openings.{IsOpening, IsOpeningCause, OpensByName, SpoilsByName};
 ghost use Rattle.gd_session.specs.Opens.{Checks, Makes, Opens, Spoiled, Spoils, Unspoiled};
 
@@ -28,6 +30,7 @@ fn open_there<V: Vault>(
     ensures cause { IfErr result (λ e. IsOpeningCause e (V.view_of vault.old).faults (V.view_of vault.new).faults) }
     ensures answered { IfOk result (λ _. (V.view_of vault.new).faults ≡ (V.view_of vault.old).faults) }
     ensures counted { IfErr result (λ e. Counts e (V.view_of vault.old).faults (V.view_of vault.new).faults) }
+    ensures asks { OnlyAsks (V.view_of vault.old) (V.view_of vault.new) }
 {
     Store::open_file(alloc, vault, &settings.file, access, settings.cache)
 }
@@ -42,6 +45,7 @@ fn make<V: Vault>(alloc: Global, settings: &Settings, vault: &mut V) -> Result<S
     ensures cause { IfErr result (λ e. IsOpeningCause e (V.view_of vault.old).faults (V.view_of vault.new).faults) }
     ensures answered { IfOk result (λ _. (V.view_of vault.new).faults ≡ (V.view_of vault.old).faults) }
     ensures counted { IfErr result (λ e. Counts e (V.view_of vault.old).faults (V.view_of vault.new).faults) }
+    ensures frame { MakesWithin settings.now.file (V.view_of vault.old) (V.view_of vault.new) }
 {
     Store::create(
         alloc,
@@ -67,6 +71,7 @@ fn open_or_make<V: Vault>(
     ensures cause { IfErr result (λ e. IsOpeningCause e (V.view_of vault.old).faults (V.view_of vault.new).faults) }
     ensures answered { IfOk result (λ _. (V.view_of vault.new).faults ≡ (V.view_of vault.old).faults) }
     ensures counted { IfErr result (λ e. Counts e (V.view_of vault.old).faults (V.view_of vault.new).faults) }
+    ensures frame { OpensOrMakesWithin settings.now.file (V.view_of vault.old) (V.view_of vault.new) }
 {
     match vault.lookup(&settings.file) {
         Ok(Some(_)) => open_there(alloc, settings, Access::Writer, vault),
@@ -89,6 +94,7 @@ pub(crate) fn open_named<V: Vault>(
     ensures cause { IfErr result (λ e. IsOpeningCause e (V.view_of vault.old).faults (V.view_of vault.new).faults) }
     ensures answered { IfOk result (λ _. (V.view_of vault.new).faults ≡ (V.view_of vault.old).faults) }
     ensures counted { IfErr result (λ e. Counts e (V.view_of vault.old).faults (V.view_of vault.new).faults) }
+    ensures frame { OpensWithin settings.now.opening settings.now.file (V.view_of vault.old) (V.view_of vault.new) }
 {
     match settings.opening {
         Opening::NewDb => make(alloc, settings, vault),

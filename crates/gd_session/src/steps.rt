@@ -34,7 +34,7 @@ impl Session {
         ensures ready { IsReady (V.view_of vault.new) self.new }
         ensures answer { AnswersWith (Stepped command.now) (scene self.old (V.view_of vault.old) (O.written out.old) (O.fault_count out.old)) (scene self.new (V.view_of vault.new) (O.written out.new) (O.fault_count out.new)) (unasked (C.fault_count clock.old)) result }
         ensures cause { CausedBy command.now (scene self.old (V.view_of vault.old) (O.written out.old) (O.fault_count out.old)) (scene self.new (V.view_of vault.new) (O.written out.new) (O.fault_count out.new)) result }
-        ensures closes { ClosesIn command.now self.old.phase result (V.view_of vault.old) (V.view_of vault.new) }
+        ensures closes { ClosesIn command.now self.old result (V.view_of vault.old) (V.view_of vault.new) }
         ensures grows { Within AnyFile AnyName (V.view_of vault.old) (V.view_of vault.new) }
         ensures clock { clock.new ≡ clock.old }
         ensures later { O.fault_count out.old ≤ O.fault_count out.new }

@@ -12,3 +12,6 @@ returns-clause-grows g c = grows_wider _ _ _ _ c.create.ensures.frame
 
 pub returns-clause-cause : goal.returns-clause-cause
 returns-clause-cause g c = made_causes c.create.result _ _ _ c.create.ensures.refused
+
+pub returns-clause-frame : goal.returns-clause-frame
+returns-clause-frame g c = c.create.ensures.frame

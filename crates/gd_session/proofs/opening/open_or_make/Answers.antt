@@ -7,6 +7,7 @@ use Rattle.gd_store.specs.declared.access.Access.TheVariants.{Writer}
 use Rattle.gd_session.proofs.Commands.{grows_asked}
 use Rattle.gd_vault.proofs.Within.{within_trans}
 use Rattle.gd_session.proofs.Openings.{asks_of, by_name, causes_later, lookup_failed, lookup_rose, opening_after, spoils_by_name}
+use Rattle.gd_session.proofs.Framed.{asked_within, made_within, opened_within}
 use Rattle.gd_session.proofs.opening.open_or_make.Goals as goal
 
 pub returns-in-Ok-Some-clause-opening : goal.returns-in-Ok-Some-clause-opening
@@ -49,3 +50,14 @@ returns-in-Ok-None-clause-cause g c = causes_later c.make.result _ _ _ c.lookup.
 
 pub returns-in-Err-clause-cause : goal.returns-in-Err-clause-cause
 returns-in-Err-clause-cause g c = lookup_rose _ _ c.lookup.result _ _ _ c.in-Err.is c.lookup.ensures.asked
+
+pub returns-in-Ok-Some-clause-frame : goal.returns-in-Ok-Some-clause-frame
+returns-in-Ok-Some-clause-frame g c = opened_within c.args.settings.now.file _ _ _ (asks_of _ _ c.lookup.ensures.asked) c.open_there.ensures.asks
+
+pub returns-in-Ok-None-clause-frame : goal.returns-in-Ok-None-clause-frame
+returns-in-Ok-None-clause-frame g c =
+    let e = c.in-Ok-None in
+    made_within c.args.settings.now.file _ _ _ (asks_of _ _ c.lookup.ensures.asked) (λ k told. e.ensures.found k told ∙ ap (option_map (λ (f : FileId). f.0)) e.field-0-is) c.make.ensures.frame
+
+pub returns-in-Err-clause-frame : goal.returns-in-Err-clause-frame
+returns-in-Err-clause-frame g c = asked_within c.args.settings.now.file _ _ (asks_of _ _ c.lookup.ensures.asked)

@@ -1,7 +1,8 @@
 use Rattle.std.proofs.Common.{Ok, Err, refl, ap, ◌∙◌}
 use Rattle.gd_vault.proofs.Within.{within_trans}
 use Rattle.gd_session.proofs.Closed.{can_close, close_done_caused, close_failed_caused, ready_shut, synced_at}
-use Rattle.gd_session.specs.State.{Held}
+use Rattle.gd_session.specs.State.{Held, naming, seen}
+use Rattle.gd_session.proofs.Framed.{within_at}
 use Rattle.gd_session.specs.declared.reply.Reply.TheVariants.{Refused}
 use Rattle.gd_session.proofs.Reopened.{opened_at, refused_at, reopen_caused, reopen_refused, reopen_unclosed, reopened, settings_moved, state_open, state_shut}
 use Rattle.gd_session.proofs.Counting.{counts_from}
@@ -69,7 +70,7 @@ returns-in-Err-open_named-clause-closes g c =
       mid = g.V.Vault.view_of c.close_phase.new.vault;
       result = Ok tt;
       closes = synced_at c.replace-phase.result c.args.self.now.phase _ _ _ same c.in_default.ensures.synced;
-      behind = c.open_named.ensures.grows;
+      behind = within_at _ (naming c.args.name.now (seen c.args.self.now)).settings _ _ (settings_moved _ c.args.self.now c.args.name.now c.set_name.new.file c.self.view_is c.set_name.ensures) c.open_named.ensures.frame;
     }
 
 pub returns-in-Ok-clause-closes : goal.returns-in-Ok-clause-closes
@@ -79,7 +80,7 @@ returns-in-Ok-clause-closes g c =
       mid = g.V.Vault.view_of c.close_phase.new.vault;
       result = Ok tt;
       closes = synced_at c.replace-phase.result c.args.self.now.phase _ _ _ same c.in_default.ensures.synced;
-      behind = c.open_named.ensures.grows;
+      behind = within_at _ (naming c.args.name.now (seen c.args.self.now)).settings _ _ (settings_moved _ c.args.self.now c.args.name.now c.set_name.new.file c.self.view_is c.set_name.ensures) c.open_named.ensures.frame;
     }
 
 pub returns-in-Err-open_named-clause-counted : goal.returns-in-Err-open_named-clause-counted
