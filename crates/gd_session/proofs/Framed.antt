@@ -1,5 +1,5 @@
 -- Which files and names an opening touches.
-use Rattle.std.proofs.Common.{◌≡◌, ◌≢◌, ℕ, List, Some, None, sym, subst}
+use Rattle.std.proofs.Common.{◌≡◌, Some, None, sym, subst}
 use Rattle.gd_lang.specs.declared.commands.Opening.{Opening}
 use Rattle.gd_store.specs.Opened.{StandsFor}
 use Rattle.gd_vault.specs.Content.{Content}

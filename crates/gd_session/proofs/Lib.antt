@@ -10,6 +10,7 @@ mod Firsts
 mod Framed
 mod Keys
 mod Listings
+mod Moved
 mod Openings
 mod Reopened
 mod Resized

@@ -1,5 +1,5 @@
 -- Which files and names an opening may touch.
-use Rattle.std.specs.Prelude.{◌≡◌, ◌≢◌, ℕ, List, None}
+use Rattle.std.specs.Prelude.{◌≡◌, ◌≢◌, None}
 use Rattle.gd_lang.specs.declared.commands.Opening.{Opening}
 use Rattle.gd_lang.specs.declared.commands.Opening.TheVariants as ways
 use Rattle.gd_store.specs.Opened.{StandsFor}

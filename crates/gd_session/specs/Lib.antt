@@ -7,6 +7,7 @@ pub mod Filling
 pub mod Frames
 pub mod Held
 pub mod Listing
+pub mod Moves
 pub mod Openings
 pub mod Opens
 pub mod Proper

@@ -10,8 +10,9 @@ ghost use Rattle.gd_session.specs.Calls.{Answers, AnyFile, AnyName, IsReady, sce
 ghost use Rattle.gd_session.specs.Closing.{CanClose, ClosesSynced, IsClosing, SyncsOpen};
 ghost use Rattle.gd_session.specs.Counted.{VaultCounts};
 ghost use Rattle.gd_session.specs.Due.{Causes, moving};
+ghost use Rattle.gd_session.specs.Moves as moves;
 ghost use Rattle.gd_session.specs.Rows.{Closes};
-ghost use Rattle.gd_session.specs.State.{Text};
+ghost use Rattle.gd_session.specs.State.{Text, seen};
 
 use crate::Reply;
 use crate::phase::Phase;
@@ -46,6 +47,7 @@ impl Session {
         ensures fault { (result ≡ Done) ⊎ ((result ≡ Refused VaultFault) × Rose (V.view_of vault.old).faults (V.view_of vault.new).faults) }
         ensures synced { ClosesSynced self.old.phase result (V.view_of vault.old) (V.view_of vault.new) }
         ensures counted { VaultCounts result (V.view_of vault.old).faults (V.view_of vault.new).faults }
+        ensures leaves { moves.Closes (seen self.old) result (seen self.new) }
     {
         let phase = mem::replace(&mut self.phase, Phase::Shut);
         self.last = None;

@@ -5,12 +5,13 @@ ghost use Rattle.gd_session.specs.Calls.{Answers, AnyFile, AnyName, IsReady, sce
 ghost use Rattle.gd_session.specs.Closing.{ClosesSynced};
 ghost use Rattle.gd_session.specs.Counted.{VaultCounts};
 ghost use Rattle.gd_session.specs.Due.{Causes, moving};
+ghost use Rattle.gd_session.specs.Moves as moves;
 ghost use Rattle.gd_session.specs.Rows.{Closes};
 ghost use Rattle.gd_base.specs.Causes.{Rose};
 ghost use Rattle.gd_base.specs.declared.errors.DbError.TheVariants.{VaultFault};
 ghost use Rattle.gd_session.specs.declared.reply.Reply.TheVariants.{Done, Refused};
 ghost use Rattle.gd_vault.specs.Frame.{Within};
-ghost use Rattle.gd_session.specs.State.{Text};
+ghost use Rattle.gd_session.specs.State.{Text, seen};
 ghost use Rattle.gd_session.specs.declared.phase.Phase.TheVariants as phases;
 
 use crate::Reply;
@@ -70,6 +71,7 @@ impl Session {
         ensures synced { ClosesSynced self.old.phase result (V.view_of vault.old) (V.view_of vault.new) }
         ensures grows { Within AnyFile AnyName (V.view_of vault.old) (V.view_of vault.new) }
         ensures counted { VaultCounts result (V.view_of vault.old).faults (V.view_of vault.new).faults }
+        ensures leaves { moves.Closes (seen self.old) result (seen self.new) }
     {
         self.close(vault)
     }

@@ -6,9 +6,10 @@ ghost use Rattle.gd_session.specs.Calls.{Answers, AnyFile, AnyName, IsReady, sce
 ghost use Rattle.gd_session.specs.Closing.{ClosesFirst};
 ghost use Rattle.gd_session.specs.Counted.{VaultCounts};
 ghost use Rattle.gd_session.specs.Due.{Causes, moving};
+ghost use Rattle.gd_session.specs.Moves as moves;
 ghost use Rattle.gd_session.specs.Proper.{IsProperName};
 ghost use Rattle.gd_session.specs.Rows.{Reopens};
-ghost use Rattle.gd_session.specs.State.{Text, named};
+ghost use Rattle.gd_session.specs.State.{Text, named, seen};
 
 use crate::Reply;
 use crate::closing::close_phase;
@@ -40,6 +41,7 @@ impl Session {
         ensures cause { (out : Option Text) (failed : ℕ) → Causes None moving (scene self.old (V.view_of vault.old) out failed) (scene self.new (V.view_of vault.new) out failed) result }
         ensures closes { ClosesFirst self.old.phase self.old.settings.opening (named name.now self.old.settings.file) result (V.view_of vault.old) (V.view_of vault.new) }
         ensures counted { VaultCounts result (V.view_of vault.old).faults (V.view_of vault.new).faults }
+        ensures leaves { moves.Reopens name.now (seen self.old) result (seen self.new) }
     {
         set_name(&mut self.settings.file, name);
         let phase = mem::replace(&mut self.phase, Phase::Shut);

@@ -1,13 +1,16 @@
 //! Opening a database by its name.
 
-ghost use Rattle.std.specs.Prelude.{◌≡◌, ◌≤◌, IfOk, IfErr};
+ghost use Rattle.std.specs.Prelude.{◌≡◌, ◌≤◌, true, IfOk, IfErr};
 ghost use Rattle.gd_readable.specs.Asks.{Counts};
+ghost use Rattle.gd_store.specs.Opened.{is_of_opening};
 ghost use Rattle.gd_vault.specs.Frame.{Within};
 ghost use Rattle.gd_vault.specs.Views.{OnlyAsks};
 ghost use Rattle.gd_session.specs.Calls.{AnyFile, AnyName};
 ghost use Rattle.gd_session.specs.Frames.{MakesWithin, OpensOrMakesWithin, OpensWithin};
+ghost use Rattle.gd_session.specs.Moves as moves;
 ghost use Rattle.gd_session.specs.Openings.{IsOpening, IsOpeningCause, OpensByName, SpoilsByName};
 ghost use Rattle.gd_session.specs.Opens.{Checks, Makes, Opens, Spoiled, Spoils, Unspoiled};
+ghost use Rattle.gd_session.specs.State.{db_of};
 
 use crate::settings::Settings;
 use gd_base::DbError;
@@ -31,6 +34,8 @@ fn open_there<V: Vault>(
     ensures answered { IfOk result (λ _. (V.view_of vault.new).faults ≡ (V.view_of vault.old).faults) }
     ensures counted { IfErr result (λ e. Counts e (V.view_of vault.old).faults (V.view_of vault.new).faults) }
     ensures asks { OnlyAsks (V.view_of vault.old) (V.view_of vault.new) }
+    ensures first { IfOk result (λ o. moves.IsNew access settings.now.cache (db_of o)) }
+    ensures errors { IfErr result (λ e. moves.or_failed (is_of_opening access) e ≡ true) }
 {
     Store::open_file(alloc, vault, &settings.file, access, settings.cache)
 }
@@ -46,6 +51,8 @@ fn make<V: Vault>(alloc: Global, settings: &Settings, vault: &mut V) -> Result<S
     ensures answered { IfOk result (λ _. (V.view_of vault.new).faults ≡ (V.view_of vault.old).faults) }
     ensures counted { IfErr result (λ e. Counts e (V.view_of vault.old).faults (V.view_of vault.new).faults) }
     ensures frame { MakesWithin settings.now.file (V.view_of vault.old) (V.view_of vault.new) }
+    ensures first { IfOk result (λ o. moves.IsNew Access.Writer settings.now.cache (db_of o)) }
+    ensures errors { IfErr result (λ e. moves.or_failed moves.is_of_making e ≡ true) }
 {
     Store::create(
         alloc,
@@ -72,6 +79,8 @@ fn open_or_make<V: Vault>(
     ensures answered { IfOk result (λ _. (V.view_of vault.new).faults ≡ (V.view_of vault.old).faults) }
     ensures counted { IfErr result (λ e. Counts e (V.view_of vault.old).faults (V.view_of vault.new).faults) }
     ensures frame { OpensOrMakesWithin settings.now.file (V.view_of vault.old) (V.view_of vault.new) }
+    ensures first { IfOk result (λ o. moves.IsNew Access.Writer settings.now.cache (db_of o)) }
+    ensures errors { IfErr result (λ e. moves.or_failed (moves.is_of_way Opening.WrCreat) e ≡ true) }
 {
     match vault.lookup(&settings.file) {
         Ok(Some(_)) => open_there(alloc, settings, Access::Writer, vault),
@@ -95,6 +104,8 @@ pub(crate) fn open_named<V: Vault>(
     ensures answered { IfOk result (λ _. (V.view_of vault.new).faults ≡ (V.view_of vault.old).faults) }
     ensures counted { IfErr result (λ e. Counts e (V.view_of vault.old).faults (V.view_of vault.new).faults) }
     ensures frame { OpensWithin settings.now.opening settings.now.file (V.view_of vault.old) (V.view_of vault.new) }
+    ensures first { IfOk result (λ o. moves.IsFirst settings.now (db_of o)) }
+    ensures errors { IfErr result (λ e. moves.or_failed (moves.is_of_way settings.now.opening) e ≡ true) }
 {
     match settings.opening {
         Opening::NewDb => make(alloc, settings, vault),

@@ -10,6 +10,7 @@ ghost use Rattle.gd_session.specs.Calls.{Answers, IsReady, scene};
 ghost use Rattle.gd_session.specs.Counted.{OutCounts};
 ghost use Rattle.gd_lang.specs.declared.commands.Setting.TheVariants as variables;
 ghost use Rattle.gd_session.specs.Due.{Causes, set_kind};
+ghost use Rattle.gd_session.specs.Moves as moves;
 ghost use Rattle.gd_session.specs.Proper.{IsProperOption, IsProperSetting};
 ghost use Rattle.gd_session.specs.Rows.{Alone, set_row, with_setting};
 ghost use Rattle.gd_session.specs.Said.{Said, Sets};
@@ -209,6 +210,7 @@ impl Session {
         ensures answer { Answers (Alone (set_row setting.now)) (scene self.old (V.view_of vault.now) (O.written out.old) (O.fault_count out.old)) (scene self.new (V.view_of vault.now) (O.written out.new) (O.fault_count out.new)) result }
         ensures cause { Causes None (set_kind setting.now) (scene self.old (V.view_of vault.now) (O.written out.old) (O.fault_count out.old)) (scene self.new (V.view_of vault.now) (O.written out.new) (O.fault_count out.new)) result }
         ensures sink { OutCounts result (O.fault_count out.old) (O.fault_count out.new) }
+        ensures leaves { moves.SetMove setting.now (seen self.old) result (seen self.new) }
     {
         match setting {
             None => say_variables(&self.settings, out),

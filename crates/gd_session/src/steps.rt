@@ -6,7 +6,9 @@ ghost use Rattle.gd_session.specs.Calls.{AnswersWith, AnyFile, AnyName, IsReady,
 ghost use Rattle.gd_session.specs.Closing.{ClosesIn};
 ghost use Rattle.gd_session.specs.Counted.{StepCounts};
 ghost use Rattle.gd_session.specs.Due.{CausedBy};
+ghost use Rattle.gd_session.specs.Moves.{CommandMoves};
 ghost use Rattle.gd_session.specs.Proper.{IsProper};
+ghost use Rattle.gd_session.specs.State.{seen};
 ghost use Rattle.gd_session.specs.Step.{Stepped};
 
 use crate::Reply;
@@ -40,6 +42,7 @@ impl Session {
         ensures later { O.fault_count out.old ≤ O.fault_count out.new }
         ensures kept { O.kept out.old out.new }
         ensures counted { StepCounts command.now result (V.view_of vault.old).faults (V.view_of vault.new).faults (O.fault_count out.old) (O.fault_count out.new) }
+        ensures leaves { CommandMoves command.now (seen self.old) result (seen self.new) }
     {
         match command {
             Command::Nothing => Reply::Done,

@@ -8,6 +8,7 @@ use Rattle.gd_session.proofs.Commands.{grows_asked}
 use Rattle.gd_vault.proofs.Within.{within_trans}
 use Rattle.gd_session.proofs.Openings.{asks_of, by_name, causes_later, lookup_failed, lookup_rose, opening_after, spoils_by_name}
 use Rattle.gd_session.proofs.Framed.{asked_within, made_within, opened_within}
+use Rattle.gd_session.proofs.Moved.{made_or_opened, opened_or_made}
 use Rattle.gd_session.proofs.opening.open_or_make.Goals as goal
 
 pub returns-in-Ok-Some-clause-opening : goal.returns-in-Ok-Some-clause-opening
@@ -61,3 +62,9 @@ returns-in-Ok-None-clause-frame g c =
 
 pub returns-in-Err-clause-frame : goal.returns-in-Err-clause-frame
 returns-in-Err-clause-frame g c = asked_within c.args.settings.now.file _ _ (asks_of _ _ c.lookup.ensures.asked)
+
+pub returns-in-Ok-Some-clause-errors : goal.returns-in-Ok-Some-clause-errors
+returns-in-Ok-Some-clause-errors g c = opened_or_made c.open_there.result c.open_there.ensures.errors
+
+pub returns-in-Ok-None-clause-errors : goal.returns-in-Ok-None-clause-errors
+returns-in-Ok-None-clause-errors g c = made_or_opened c.make.result c.make.ensures.errors

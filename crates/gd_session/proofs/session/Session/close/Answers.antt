@@ -1,7 +1,8 @@
 use Rattle.std.proofs.Common.{refl, ap, inl, inr, ◌∙◌}
-use Rattle.gd_session.specs.State.{Held}
+use Rattle.gd_session.specs.State.{Held, seen}
 use Rattle.gd_session.proofs.Closed.{can_close, close_done, close_done_caused, close_failed, close_failed_caused, closed_phase, closed_state, ready_shut, synced_at}
 use Rattle.gd_session.specs.declared.reply.Reply.TheVariants.{Refused}
+use Rattle.gd_session.proofs.Moved.{closes_done, closes_failed}
 use Rattle.gd_session.proofs.session.Session.close.Goals as goal
 use Rattle.gd_session.proofs.session.Session.close.Goals.{in-Ok, in-Err}
 
@@ -46,4 +47,12 @@ returns-clause-counted g c =
     elim c.match-close_phase.branch [
       | in-Ok w ↦ rw w.result-is w.in-Ok.ensures.answered
       | in-Err w ↦ rw w.result-is w.in-Err.ensures.counted
+    ]
+
+pub returns-clause-leaves : goal.returns-clause-leaves
+returns-clause-leaves g c =
+    let state = closed_state _ _ c.replace-phase.new.dest c.self.view_is c.replace-phase.ensures.after in
+    elim c.match-close_phase.branch [
+      | in-Ok w ↦ rw w.result-is (closes_done (seen c.args.self.now) _ state)
+      | in-Err w ↦ rw w.result-is (closes_failed (seen c.args.self.now) _ c.replace-phase.result w.in-Err.error (g.V.Vault.view_of c.args.vault.now) (g.V.Vault.view_of c.close_phase.new.vault) (closed_phase _ c.args.self.now c.replace-phase.result c.self.view_is c.replace-phase.ensures.value) state w.in-Err.ensures.closing)
     ]

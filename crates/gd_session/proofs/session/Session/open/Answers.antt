@@ -6,6 +6,7 @@ use Rattle.gd_session.proofs.Framed.{within_at}
 use Rattle.gd_session.specs.declared.reply.Reply.TheVariants.{Refused}
 use Rattle.gd_session.proofs.Reopened.{opened_at, refused_at, reopen_caused, reopen_refused, reopen_unclosed, reopened, settings_moved, state_open, state_shut}
 use Rattle.gd_session.proofs.Counting.{counts_from}
+use Rattle.gd_session.proofs.Moved.{reopens_done, reopens_refused, reopens_unclosed}
 use Rattle.gd_session.proofs.session.Session.open.Goals as goal
 
 pub close_phase-requires : goal.close_phase-requires
@@ -88,3 +89,12 @@ returns-in-Err-open_named-clause-counted g c = counts_from (Refused c.in-Err-ope
 
 pub returns-in-Ok-clause-counted : goal.returns-in-Ok-clause-counted
 returns-in-Ok-clause-counted g c = c.in-Ok.ensures.answered ∙ c.in_default.ensures.answered
+
+pub returns-in-Err-clause-leaves : goal.returns-in-Err-clause-leaves
+returns-in-Err-clause-leaves g c = reopens_unclosed c.args.name.now (seen c.args.self.now) _ c.replace-phase.result c.in-Err.error (g.V.Vault.view_of c.args.vault.now) (g.V.Vault.view_of c.close_phase.new.vault) (state_shut _ c.args.self.now c.args.name.now c.set_name.new.file c.replace-phase.new.dest c.self.view_is c.set_name.ensures c.replace-phase.ensures.after) c.in-Err.ensures.closing
+
+pub returns-in-Err-open_named-clause-leaves : goal.returns-in-Err-open_named-clause-leaves
+returns-in-Err-open_named-clause-leaves g c = reopens_refused c.args.name.now (seen c.args.self.now) _ _ c.in-Err-open_named.error (settings_moved _ c.args.self.now c.args.name.now c.set_name.new.file c.self.view_is c.set_name.ensures) (state_shut _ c.args.self.now c.args.name.now c.set_name.new.file c.replace-phase.new.dest c.self.view_is c.set_name.ensures c.replace-phase.ensures.after) c.in-Err-open_named.ensures.errors
+
+pub returns-in-Ok-clause-leaves : goal.returns-in-Ok-clause-leaves
+returns-in-Ok-clause-leaves g c = reopens_done c.args.name.now (seen c.args.self.now) _ _ c.in-Ok.store (settings_moved _ c.args.self.now c.args.name.now c.set_name.new.file c.self.view_is c.set_name.ensures) (state_open _ c.args.self.now c.args.name.now c.set_name.new.file c.in-Ok.store c.self.view_is c.set_name.ensures) c.in-Ok.ensures.first

@@ -1,10 +1,11 @@
-use Rattle.std.proofs.Common.{Some, None, refl, ap, ◌∙◌}
+use Rattle.std.proofs.Common.{Some, None, false, refl, ap, ◌∙◌}
 use Rattle.gd_lang.specs.declared.commands.Command.TheVariants as commands
 use Rattle.gd_session.specs.Due.{moving, set_kind, silent}
 use Rattle.gd_session.proofs.Caused.{caused_done}
 use Rattle.gd_session.proofs.Closed.{closes_as}
 use Rattle.gd_session.proofs.Encoded.{answered_as, caused_as, caused_quit, stays_as, version_answer, version_caused}
 use Rattle.gd_session.proofs.Counting.{out_none, said_counts, set_asks, step_counts, vault_none}
+use Rattle.gd_session.proofs.Moved.{command_moves, said_error}
 use Rattle.gd_session.proofs.session.Session.step.Goals as goal
 
 pub returns-in-Nothing-clause-answer : goal.returns-in-Nothing-clause-answer
@@ -198,3 +199,51 @@ returns-in-Delete-clause-counted g c = step_counts c.args.command.now _ c.answer
 
 pub returns-in-Fill-clause-counted : goal.returns-in-Fill-clause-counted
 returns-in-Fill-clause-counted g c = step_counts c.args.command.now _ c.answer-in-Fill.result _ _ _ _ c.in-Fill.is c.answer-in-Fill.ensures.counted c.answer-in-Fill.ensures.sink
+
+pub returns-in-Nothing-clause-leaves : goal.returns-in-Nothing-clause-leaves
+returns-in-Nothing-clause-leaves g c = command_moves c.args.command.now commands.Nothing _ _ _ c.in-Nothing.is (refl, refl)
+
+pub returns-in-Quit-clause-leaves : goal.returns-in-Quit-clause-leaves
+returns-in-Quit-clause-leaves g c = command_moves c.args.command.now commands.Quit _ _ _ c.in-Quit.is (refl, refl)
+
+pub returns-in-Version-clause-leaves : goal.returns-in-Version-clause-leaves
+returns-in-Version-clause-leaves g c = command_moves c.args.command.now commands.Version _ _ _ c.in-Version.is (said_error (λ e. false) _ c.say_text.result _ _ _ _ c.say_text.ensures.said, refl)
+
+pub returns-in-Open-clause-leaves : goal.returns-in-Open-clause-leaves
+returns-in-Open-clause-leaves g c = command_moves c.args.command.now _ _ _ _ c.in-Open.is c.open.ensures.leaves
+
+pub returns-in-Close-clause-leaves : goal.returns-in-Close-clause-leaves
+returns-in-Close-clause-leaves g c = command_moves c.args.command.now _ _ _ _ c.in-Close.is c.close.ensures.leaves
+
+pub returns-in-Set-clause-leaves : goal.returns-in-Set-clause-leaves
+returns-in-Set-clause-leaves g c = command_moves c.args.command.now _ _ _ _ c.in-Set.is c.set.ensures.leaves
+
+pub returns-in-Count-clause-leaves : goal.returns-in-Count-clause-leaves
+returns-in-Count-clause-leaves g c = command_moves c.args.command.now _ _ _ _ c.in-Count.is tt
+
+pub returns-in-Fetch-clause-leaves : goal.returns-in-Fetch-clause-leaves
+returns-in-Fetch-clause-leaves g c = command_moves c.args.command.now _ _ _ _ c.in-Fetch.is tt
+
+pub returns-in-First-clause-leaves : goal.returns-in-First-clause-leaves
+returns-in-First-clause-leaves g c = command_moves c.args.command.now _ _ _ _ c.in-First.is tt
+
+pub returns-in-List-clause-leaves : goal.returns-in-List-clause-leaves
+returns-in-List-clause-leaves g c = command_moves c.args.command.now _ _ _ _ c.in-List.is tt
+
+pub returns-in-Store-clause-leaves : goal.returns-in-Store-clause-leaves
+returns-in-Store-clause-leaves g c = command_moves c.args.command.now _ _ _ _ c.in-Store.is tt
+
+pub returns-in-Insert-clause-leaves : goal.returns-in-Insert-clause-leaves
+returns-in-Insert-clause-leaves g c = command_moves c.args.command.now _ _ _ _ c.in-Insert.is tt
+
+pub returns-in-Delete-clause-leaves : goal.returns-in-Delete-clause-leaves
+returns-in-Delete-clause-leaves g c = command_moves c.args.command.now _ _ _ _ c.in-Delete.is tt
+
+pub returns-in-Fill-clause-leaves : goal.returns-in-Fill-clause-leaves
+returns-in-Fill-clause-leaves g c = command_moves c.args.command.now _ _ _ _ c.in-Fill.is tt
+
+pub returns-in-None-clause-leaves : goal.returns-in-None-clause-leaves
+returns-in-None-clause-leaves g c = command_moves c.args.command.now (commands.Next None) _ _ _ (c.in-Next.is ∙ ap commands.Next c.in-None.is) tt
+
+pub returns-in-Some-clause-leaves : goal.returns-in-Some-clause-leaves
+returns-in-Some-clause-leaves g c = command_moves c.args.command.now (commands.Next (Some c.in-Some.words)) _ _ _ (c.in-Next.is ∙ ap commands.Next c.in-Some.is) tt
