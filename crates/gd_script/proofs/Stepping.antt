@@ -38,7 +38,7 @@ cause_of due kind (Typed e) old new u v w w' f f' t k c = tt
 pub session_steps : (command : Command) (r : Reply) (old new : Held) (u v : View) (w w' : Option Text) (f f' : ℕ) (t t' : Option Readings) (k k' : ℕ)
     → Within AnyFile AnyName u v → f ≤ f' → t' ≡ t → k' ≡ k
     → AnswersWith (Stepped command) (session.scene old u w f) (session.scene new v w' f') (unasked k) r → CausedBy command (session.scene old u w f) (session.scene new v w' f') r
-    → ClosesIn command old.phase r u v → Steps session_rules command (scene old u w f t k) (scene new v w' f' t' k') r None
+    → ClosesIn command old r u v → Steps session_rules command (scene old u w f t k) (scene new v w' f' t' k') r None
 session_steps command r old new u v w w' f f' t t' k k' grows out told clock answer cause closes =
     subst (λ (o : Option Readings). Steps session_rules command (scene old u w f t k) (scene new v w' f' o k') r None) (sym told)
     (subst (λ (n : ℕ). Steps session_rules command (scene old u w f t k) (scene new v w' f' t n) r None) (sym clock) record {

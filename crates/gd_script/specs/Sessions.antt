@@ -32,7 +32,7 @@ of_session s = calls.scene s.held s.view s.written s.out_faults
 -- an answer over every vault: its cause, how the database that was open was closed, and that the clock was not asked
 pub record Owes (command : Command) (old new : Scene Held) (reply : Reply) (reading : Option ℕ) : Type 0 where
   pub caused : CausedBy command (of_session old) (of_session new) reply
-  pub closes : ClosesIn command old.held.phase reply old.view new.view
+  pub closes : ClosesIn command old.held reply old.view new.view
   pub none : reading ≡ None
   pub told : new.told ≡ old.told
   pub clock_faults : new.clock_faults ≡ old.clock_faults
