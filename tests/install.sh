@@ -119,6 +119,10 @@ completes() {
     bash -c 'compopt() { :; }; source "$0"; COMP_WORDS=("$@"); COMP_CWORD=$(($# - 1)); '"_$1"'; echo "${COMPREPLY[*]}"' \
         "$root/usr/share/bash-completion/completions/$1" "$@"
 }
+same "gdbm_dump --" '--format=' "$(completes gdbm_dump --)"
+same "gdbm_dump -H" 'ascii binary' "$(completes gdbm_dump -H '')"
+same "gdbm_dump --format=b" 'binary' "$(completes gdbm_dump --format = b)"
+same "gdbm_dump a" 'a file.gdbm' "$(completes gdbm_dump a)"
 same "gdbmtool --b" '--block-size=' "$(completes gdbmtool --b)"
 same "gdbmtool -b" '' "$(completes gdbmtool -b '')"
 same "gdbmtool a" 'a file.gdbm' "$(completes gdbmtool a)"
