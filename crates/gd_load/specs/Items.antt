@@ -1,5 +1,5 @@
 -- The items that come from a source.
-use Rattle.std.specs.Prelude.{◌≡◌, ℕ, ◌+◌, ◌-◌, ◌*◌, ◌^◌, List, [], ◌++◌, take, drop, Bool, true, false, Option, Some, None, Result, Ok, Err}
+use Rattle.std.specs.Prelude.{◌≡◌, ℕ, ◌+◌, ◌-◌, ◌*◌, ◌^◌, List, [], ◌++◌, take, drop, Bool, true, false, Option, Some, None, option_map, length, Result, Ok, Err}
 use Rattle.gd_base.specs.Causes.{Rose}
 use Rattle.gd_base.specs.Sources.{IsAtEnd}
 use Rattle.gd_dump_reading.specs.Readers.{left_by, taken_by}
@@ -22,20 +22,38 @@ incoming_left {g = g} i rest = left_by g.left i.reader (waiting i ++ rest)
 abbrev pub IsLeft : Option (List ℕ) → (List ℕ → Type 0) → Type 0
 IsLeft told P = (rest : List ℕ) × (told ≡ Some rest) × P rest
 
--- the same dump is still told, and no item of it ends in the bytes that were taken
-pub record StillTold {M : Type 0} {g : Ghosts M} (old new : Incoming M g) (bytes : List ℕ) (told : Option (List ℕ)) : Type 0 where
-  pub same : IsLeft told (λ rest. incoming_left old bytes ≡ incoming_left new rest)
-  pub none : NoneEnds (left_by g.left new.reader) (taken_by g.taken new.reader)
-  pub all : waiting new ≡ []
+-- these bytes were read of a source: they were at the front of what it told, and of them P holds
+pub record ReadOn (before now : Option (List ℕ)) (P : List ℕ → Type 0) : Type 0 where
+  pub bytes : List ℕ
+  pub front : before ≡ option_map (λ rest. bytes ++ rest) now
+  pub says : P bytes
 
--- one call for the next item, where these bytes were left of the source
-abbrev pub Gives : {M : Type 0} {g : Ghosts M} → Incoming M g → Incoming M g → List ℕ → Option (List ℕ) → Result (Option Item) Stop → Type 0
-Gives {g = g} old new bytes told (Ok (Some item)) = IsLeft told (λ rest. incoming_left old bytes ≡ given item (taken_by g.taken new.reader) (incoming_left new rest))
-Gives {g = g} old new bytes told (Ok None) = incoming_left old bytes ≡ nothing
-Gives {g = g} old new bytes told (Err (Refused kind place)) = incoming_left old bytes ≡ refused kind place
-Gives {g = g} old new bytes told (Err InputFailed) = StillTold old new bytes told
-Gives {g = g} old new bytes told (Err TooLong) = StillTold old new bytes told
-Gives {g = g} old new bytes told (Err Starved) = Unit {0}
+-- what may still come of a source: nothing, where it has ended
+abbrev pub MayCome : Bool → List ℕ → Type 0
+MayCome ended rest = ended ≡ true → rest ≡ []
+
+-- so many bytes more were read, and none where the source had ended
+pub record Counts {M : Type 0} {g : Ghosts M} (old new : Incoming M g) (bytes : List ℕ) : Type 0 where
+  pub read : new.read ≡ old.read + length bytes
+  pub stays : old.ended ≡ true → (bytes ≡ []) × (new.ended ≡ true)
+
+-- the same dump is still told, whatever comes behind the bytes that were read: all were taken, no item ends in them, and the dump was not
+-- refused
+pub record StillTold {M : Type 0} {g : Ghosts M} (old new : Incoming M g) (bytes : List ℕ) : Type 0 where
+  pub same : (rest : List ℕ) → incoming_left old (bytes ++ rest) ≡ incoming_left new rest
+  pub none : NoneEnds (left_by g.left new.reader) (taken_by g.taken new.reader)
+  pub all : taken_by g.taken new.reader ≡ new.read
+  pub going : new.reader.stop ≡ None
+  pub more : new.ended ≡ false
+
+-- one call for the next item, in which these bytes were read of the source
+abbrev pub Gives : {M : Type 0} {g : Ghosts M} → Incoming M g → Incoming M g → List ℕ → Result (Option Item) Stop → Type 0
+Gives {g = g} old new bytes (Ok (Some item)) = (rest : List ℕ) → MayCome new.ended rest → incoming_left old (bytes ++ rest) ≡ given item (taken_by g.taken new.reader) (incoming_left new rest)
+Gives {g = g} old new bytes (Ok None) = (new.ended ≡ true) × (incoming_left old (bytes ++ []) ≡ nothing)
+Gives {g = g} old new bytes (Err (Refused kind place)) = (rest : List ℕ) → MayCome new.ended rest → incoming_left old (bytes ++ rest) ≡ refused kind place
+Gives {g = g} old new bytes (Err InputFailed) = StillTold old new bytes
+Gives {g = g} old new bytes (Err TooLong) = StillTold old new bytes
+Gives {g = g} old new bytes (Err Starved) = Unit {0}
 
 -- why there is no next item
 abbrev pub StopsFor : Stop → (before now read : ℕ) → Type 0
@@ -48,11 +66,6 @@ abbrev pub EndsWith : Bool → Option (List ℕ) → Type 0
 EndsWith ended told = ended ≡ true → IsAtEnd told
 
 -- ---- the parts of a call
-
--- a page of the bytes was read
-abbrev pub TurnsTo : {M : Type 0} {g : Ghosts M} → Incoming M g → List ℕ → Option (List ℕ) → Result (Unit {0}) Stop → Type 0
-TurnsTo new bytes told (Ok u) = IsLeft told (λ rest. bytes ≡ waiting new ++ rest)
-TurnsTo new bytes told (Err stop) = told ≡ Some bytes
 
 -- an item came, or all of the page was taken and none ends there; f and h are what is told before and after, by what is left of the source
 abbrev pub FeedsBy : (f h reads : List ℕ → Told) (at end taken : ℕ) → Option Item → Type 0
@@ -79,10 +92,6 @@ pages_left read true = 2 * (2 ^ 32 - read)
 pages_left read false = 2 * (2 ^ 32 - read) + 1
 
 -- ---- the next item of what was read
-
--- what may still come of a source: nothing, where it has ended
-abbrev pub MayCome : Bool → List ℕ → Type 0
-MayCome ended rest = ended ≡ true → rest ≡ []
 
 -- no item is in what was read: the dump has ended with the source, or all that was read was taken, and no item ends there
 abbrev pub NoneRead : {M : Type 0} {g : Ghosts M} → Bool → Incoming M g → Incoming M g → Type 0

@@ -1,10 +1,11 @@
 //! The items of a dump that comes from a source, page by page.
 
-ghost use Rattle.std.specs.Prelude.{◌≡◌, ◌⊎◌, ℕ, List, ◌+◌, ◌-◌, ◌^◌, ◌<◌, ◌≤◌, drop, false, None, Some, IfOk, IfErr, OnOk, OnErr, length, take};
+ghost use Rattle.std.specs.Prelude.{◌≡◌, ◌⊎◌, ◌++◌, ℕ, List, ◌+◌, ◌-◌, ◌^◌, ◌<◌, ◌≤◌, drop, eqb, false, true, None, Some, IfOk, IfErr, OnOk, OnErr, length, option_map, take};
+ghost use Rattle.std.specs.List.{starts_with};
 ghost use Rattle.gd_base.specs.Causes.{HasCause};
 ghost use Rattle.gd_base.specs.Sources.{Reads};
 ghost use Rattle.gd_dump_reading.specs.Readers.{left_by, taken_by};
-ghost use Rattle.gd_dump_reading.specs.Told.{Feeds, NoneEnds};
+ghost use Rattle.gd_dump_reading.specs.Told.{Feeds, NoneEnds, Repeats};
 
 use gd_base::{Failed, Source};
 use gd_dump_reading::{DumpError, DumpKind, Fed, Item, Machine, Reader};
@@ -41,6 +42,7 @@ pub struct Incoming<M: Machine> {
     ghost inside: { end ≤ 4096 },
     ghost few: { read ≤ 2 ^ 32 },
     ghost taken: { taken_by M.taken reader + (end - at) ≤ read },
+    ghost exact: { reader.stop ≡ None → taken_by M.taken reader + (end - at) ≡ read },
 }
 
 // Reads into the front of a page.
@@ -65,18 +67,21 @@ fn feed_window<M: Machine>(
     ensures whole { IfOk result (λ fed. fed.item ≡ None → fed.taken ≡ end - at) }
     ensures within { IfOk result (λ fed. fed.taken ≤ end - at) }
     ensures none { IfOk result (λ fed. fed.item ≡ None → NoneEnds (left_by M.left reader.new) (taken_by M.taken reader.new)) }
+    ensures again { Repeats reader.old.stop reader.new.stop result }
     ensures stopped { IfErr result (λ e. taken_by M.taken reader.new ≤ taken_by M.taken reader.old) }
 {
     reader.feed(&page[at..end])
 }
 
 impl<M: Machine> Incoming<M> {
-    ghost use Rattle.gd_load.specs.Items.{EndsWith, FeedsPage, FinishesPage, Gives, GivesRead, IsLeft, StopsFor, TurnsTo, incoming_left, pages_left};
+    ghost use Rattle.gd_load.specs.Items.{EndsWith, FeedsPage, Counts, FinishesPage, Gives, GivesRead, IsLeft, ReadOn, StopsFor, incoming_left, pages_left, waiting};
 
     /// Nothing was read.
     pub fn new(alloc: Global) -> Incoming<M>
         ensures left { (bytes : List ℕ) → incoming_left result bytes ≡ M.reads bytes }
         ensures ended { result.ended ≡ false }
+        ensures all { result.at ≡ result.end }
+        ensures read { result.read ≡ 0 }
     {
         Incoming {
             reader: Reader::new(alloc),
@@ -86,6 +91,37 @@ impl<M: Machine> Incoming<M> {
             read: 0,
             ended: false,
         }
+    }
+
+    /// What was read, of which nothing was taken, goes to another reader.
+    pub(crate) fn with_machine<N: Machine>(self, alloc: Global) -> Incoming<N>
+        requires { self.read ≡ self.end - self.at }
+        ensures left { (rest : List ℕ) → incoming_left result rest ≡ N.reads (waiting self ++ rest) }
+        ensures same { (result.read ≡ self.read) × (result.ended ≡ self.ended) }
+    {
+        Incoming {
+            reader: Reader::new(alloc),
+            page: self.page,
+            at: self.at,
+            end: self.end,
+            read: self.read,
+            ended: self.ended,
+        }
+    }
+
+    /// Does what was read and not taken begin with these bytes?
+    pub(crate) fn begins_with(&self, front: &[u8]) -> bool
+        ensures { result ≡ starts_with eqb (waiting self.now) front.now }
+    {
+        self.page[self.at..self.end].starts_with(front)
+    }
+
+    /// How many bytes the reader has taken, which has not refused the dump.
+    pub(crate) fn taken(&self) -> u64
+        requires { self.now.reader.stop ≡ None }
+        ensures { result ≡ taken_by M.taken self.now.reader }
+    {
+        self.read - (self.end - self.at) as u64
     }
 
     /// Has the source ended?
@@ -100,7 +136,7 @@ impl<M: Machine> Incoming<M> {
     pub fn turn_page<S: Source>(&mut self, input: &mut S) -> Result<(), Stop>
         requires all { self.old.at ≡ self.old.end }
         requires going { self.old.ended ≡ false }
-        ensures turns { (bytes : List ℕ) → S.left input.old ≡ Some bytes → TurnsTo self.new bytes (S.left input.new) result }
+        ensures front { S.left input.old ≡ option_map (λ rest. waiting self.new ++ rest) (S.left input.new) }
         ensures same { (bytes : List ℕ) → S.left input.old ≡ Some bytes → IsLeft (S.left input.new) (λ rest. incoming_left self.old bytes ≡ incoming_left self.new rest) }
         ensures ended { OnOk result (EndsWith self.new.ended (S.left input.new)) }
         ensures stays { OnErr result ((self.new.at ≡ self.new.end) × (self.new.ended ≡ false)) }
@@ -108,6 +144,11 @@ impl<M: Machine> Incoming<M> {
         ensures kind { IfErr result (λ stop. (stop ≡ Stop.InputFailed) ⊎ (stop ≡ Stop.TooLong)) }
         ensures answered { OnOk result (S.fault_count input.new ≡ S.fault_count input.old) }
         ensures reader { self.new.reader ≡ self.old.reader }
+        ensures read { OnOk result (self.new.read ≡ self.old.read + (self.new.end - self.new.at)) }
+        ensures unread { OnErr result (self.new.read ≡ self.old.read) }
+        ensures size { length (waiting self.new) ≡ self.new.end - self.new.at }
+        ensures last { OnOk result (self.new.at ≡ self.new.end → self.new.ended ≡ true) }
+        ensures few { self.new.read ≤ 2 ^ 32 }
         ensures less { OnOk result (pages_left self.new.read self.new.ended < pages_left self.old.read self.old.ended) }
     {
         if self.read == MOST {
@@ -130,6 +171,7 @@ impl<M: Machine> Incoming<M> {
     fn feed_page(&mut self) -> Result<Option<Item>, Stop>
         ensures feeds { FeedsPage self.old self.new result }
         ensures rest { (self.new.read ≡ self.old.read) × (self.new.ended ≡ self.old.ended) }
+        ensures going { OnOk result (self.new.reader.stop ≡ None) }
     {
         match feed_window(&mut self.reader, &self.page, self.at, self.end) {
             Ok(fed) => {
@@ -146,6 +188,7 @@ impl<M: Machine> Incoming<M> {
         requires all { self.old.at ≡ self.old.end }
         ensures finishes { FinishesPage self.old self.new result }
         ensures rest { (self.new.at ≡ self.new.end) × (self.new.ended ≡ self.old.ended) × (self.new.read ≡ self.old.read) }
+        ensures going { OnOk result (self.new.reader.stop ≡ None) }
     {
         match self.reader.finish() {
             Ok(item) => Ok(item),
@@ -158,6 +201,8 @@ impl<M: Machine> Incoming<M> {
     pub fn next_read(&mut self) -> Result<Option<Item>, Stop>
         ensures gives { GivesRead self.old self.new result }
         ensures rest { (self.new.read ≡ self.old.read) × (self.new.ended ≡ self.old.ended) }
+        ensures going { OnOk result (self.new.reader.stop ≡ None) }
+        ensures all { IfOk result (λ item. item ≡ None → self.new.ended ≡ false → taken_by M.taken self.new.reader ≡ self.new.read) }
     {
         if let Some(item) = self.feed_page()? {
             return Ok(Some(item));
@@ -172,19 +217,25 @@ impl<M: Machine> Incoming<M> {
     /// all.
     pub fn next<S: Source>(&mut self, input: &mut S) -> Result<Option<Item>, Stop>
         requires { EndsWith self.old.ended (S.left input.old) }
-        ensures gives { (bytes : List ℕ) → S.left input.old ≡ Some bytes → Gives self.old self.new bytes (S.left input.new) result }
+        ensures gives { ReadOn (S.left input.old) (S.left input.new) (λ bytes. Counts self.old self.new bytes × Gives self.old self.new bytes result) }
+        ensures few { self.new.read ≤ 2 ^ 32 }
+        ensures going { OnOk result (self.new.reader.stop ≡ None) }
         ensures ended { EndsWith self.new.ended (S.left input.new) }
         ensures cause { IfErr result (λ stop. StopsFor stop (S.fault_count input.old) (S.fault_count input.new) self.new.read) }
         ensures answered { OnOk result (S.fault_count input.new ≡ S.fault_count input.old) }
     {
         loop {
-            if let Some(item) = self.feed_page()? {
-                return Ok(Some(item));
+            match self.feed_page() {
+                Ok(Some(item)) => return Ok(Some(item)),
+                Ok(None) => {}
+                Err(stop) => return Err(stop),
             }
             if self.ended {
                 return self.finish();
             }
-            self.turn_page(input)?;
+            if let Err(stop) = self.turn_page(input) {
+                return Err(stop);
+            }
         }
     }
 }

@@ -1,4 +1,4 @@
-use Rattle.std.proofs.Common.{◌≡◌, ◌∙◌, ap, sym, arith, rules, ◌+◌, ◌-◌, ◌++◌, ℕ, List, take, drop}
+use Rattle.std.proofs.Common.{◌∙◌, ap, sym, arith, ◌+◌, ◌-◌, ◌++◌, ℕ, List, take, drop}
 use Rattle.gd_dump_reading.specs.Readers.{left_by, taken_by}
 use Rattle.gd_dump_reading.specs.Told.{given_if}
 use Rattle.gd_load.specs.Items.{incoming_left}
