@@ -1,2 +1,6 @@
+mod Closings
+mod Entries
+mod Naming
 mod Rounds
 mod Steps
+mod Whole

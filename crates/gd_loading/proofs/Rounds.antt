@@ -1,18 +1,21 @@
 -- Rounds of a load: over the items of what was read, and over what is read.
-use Rattle.std.proofs.Common.{◌≡◌, ◌∙◌, ◌⊎◌, ⊎_elim, ap, sym, subst, refl, ℕ, Bool, true, false, List, Option, Some, Ok, Err}
+use Rattle.std.proofs.Common.{◌≡◌, ◌∙◌, ◌⊎◌, ⊎_elim, ap, sym, subst, refl, ℕ, zero, suc, ◌+◌, ◌-◌, Bool, true, false, List, [], ◌++◌, length, take, drop, Option, Some, None, Result, Ok, Err, arith}
+use Rattle.std.specs.Prelude.{option_map}
+use Rattle.std.proofs.lemmas.List.{append_assoc, length-append}
 use Rattle.gd_base.specs.declared.errors.DbError.{DbError}
-use Rattle.gd_dump_reading.specs.Told.{Told, given, nothing}
-use Rattle.gd_dump_reading.specs.Readers.{taken_by}
+use Rattle.gd_dump_reading.specs.Told.{NoneEnds, Told, given, nothing}
+use Rattle.gd_dump_reading.specs.Readers.{left_by, taken_by}
 use Rattle.gd_dump_reading.specs.declared.items.Item.{Item}
 use Rattle.gd_dump_reading.specs.declared.machine.Machine.{Ghosts}
-use Rattle.gd_load.specs.Items.{EndsWith, GivesRead, IsLeft, MayCome, NoneRead, StopsFor, incoming_left}
+use Rattle.gd_dump_reading.specs.declared.reader.Reader.{Reader}
+use Rattle.gd_load.specs.Items.{EndsWith, GivesRead, MayCome, NoneRead, ReadOn, StopsFor, incoming_left, waiting}
 use Rattle.gd_load.specs.declared.incoming.Incoming.{Incoming}
 use Rattle.gd_load.specs.declared.incoming.Stop.{Stop}
 use Rattle.gd_load.specs.declared.incoming.Stop.TheVariants.{Refused, InputFailed, TooLong, Starved}
-use Rattle.gd_loading.specs.Loads.{Dumped, LeftAfter, Loads, LoadsRead, NoneLeft, Onward, TakesItem, whole}
+use Rattle.gd_loading.specs.Loads.{AllTaken, Bytes, Dumped, LeftAfter, Loads, LoadsAll, LoadsOn, LoadsRead, NoneAfter, NoneLeft, Onward, OnwardAll, Reached, TakesItem, behind, given_behind, whole}
 use Rattle.gd_loading.specs.declared.taking.Ending.{Ending}
 use Rattle.gd_loading.specs.declared.taking.Ending.TheVariants.{Dump, Db}
-use Rattle.gd_loading.proofs.Steps.{loads-end, loads-end-item, loads-refused, loads-stopped, loads-then, onward-item, onward-then}
+use Rattle.gd_loading.proofs.Steps.{loads-end, loads-end-item, loads-refused, loads-stopped, loads-then, onward-all-item, onward-all-none, onward-all-then, onward-all-told, onward-at, onward-then}
 use Rattle.gd_store.specs.declared.access.How.{How}
 use Rattle.gd_readable.specs.Asks.{Counts}
 use Rattle.gd_vault.proofs.Writes.{writes_trans}
@@ -22,16 +25,7 @@ use Rattle.gd_vault.specs.Views.{View}
 pub whole-given : (told now : Told) (item : Item) (end : ℕ) → told ≡ given item end now → whole told ≡ whole (given item end now)
 whole-given told now item end is = ap whole is
 
-onward-same : (how : How) (f : ℕ) (u v : View) (d e g : Dumped) → e ≡ g → Onward how f u v d e → Onward how f u v d g
-onward-same how f u v d e g is h = subst (λ (x : Dumped). Onward how f u v d x) is h
-
-pub onward-told : (how : How) (f : ℕ) (u v : View) (d : Dumped) (told now : Told) → told ≡ now → Onward how f u v d (whole told) → Onward how f u v d (whole now)
-onward-told how f u v d told now is h = onward-same how f u v d (whole told) (whole now) (ap whole is) h
-
 -- ---- an item of what was read
-
-pub item-onward : (how : How) (f : ℕ) (u v w : View) (d : Dumped) (told now : Told) (item : Item) (end : ℕ) → told ≡ given item end now → TakesItem how item f v w (Ok true) → Onward how f u v d (whole told) → Onward how f u w d (whole now)
-item-onward how f u v w d told now item end is takes h = onward-then how f u v w d (whole told) (whole now) h (onward-item how f v w item (whole told) (whole now) (whole-given told now item end is) takes.0 takes.1)
 
 pub item-end : (how : How) (f : ℕ) (u v w : View) (d : Dumped) (told now : Told) (item : Item) (end : ℕ) → told ≡ given item end now → TakesItem how item f v w (Ok false) → Onward how f u v d (whole told) → Loads how f u w d (Ok tt)
 item-end how f u v w d told now item end is takes h = loads-then how f u v w d (whole told) (Ok tt) h (loads-end-item how f v w item (whole told) (whole now) (whole-given told now item end is) takes.0 takes.1)
@@ -39,23 +33,32 @@ item-end how f u v w d told now item end is takes h = loads-then how f u v w d (
 pub item-refused : (how : How) (f : ℕ) (u v w : View) (d : Dumped) (told now : Told) (item : Item) (end : ℕ) (e : DbError) → told ≡ given item end now → TakesItem how item f v w (Err e) → Onward how f u v d (whole told) → Loads how f u w d (Err (Db e))
 item-refused how f u v w d told now item end e is takes h = loads-then how f u v w d (whole told) (Err (Db e)) h (loads-refused how f v w item (whole told) (whole now) e (whole-given told now item end is) takes)
 
+pub still-may : (was now : Bool) (rest : List ℕ) → now ≡ was → MayCome was rest → MayCome now rest
+still-may was now rest same may = λ (ended : now ≡ true). may (sym same ∙ ended)
+
+pub all-taken : {M : Type 0} {g : Ghosts M} (i : Incoming M g) → i.at ≡ i.end → i.reader.stop ≡ None → taken_by g.taken i.reader ≡ i.read
+all-taken i all going = let e = i.exact going in omega (arith, all, e)
+
 -- ---- no item in what was read
 
-pub none-read : {M : Type 0} {g : Ghosts M} (how : How) (f : ℕ) (u v : View) (d : Dumped) (b : Bool) (old new : Incoming M g) (rest : List ℕ) → MayCome b rest → NoneRead b old new → Onward how f u v d (whole (incoming_left old rest)) → LoadsRead how f u v d (whole (incoming_left new rest)) (Ok b)
-none-read how f u v d true old new rest may none h =
-    let at_none : incoming_left old rest ≡ nothing = ap (incoming_left old) (may refl) ∙ none in
-    loads-then how f u v v d (whole (incoming_left old rest)) (Ok tt) h (loads-end how f v (whole (incoming_left old rest)) (ap whole at_none))
-none-read how f u v d false old new rest may none h = onward-told how f u v d (incoming_left old rest) (incoming_left new rest) (none.2 rest) h
+pub none-read : {M : Type 0} {g : Ghosts M} (how : How) (f : ℕ) (u v : View) (d : Bytes → Dumped) (was b : Bool) (old new : Incoming M g) → b ≡ was → NoneRead b old new → OnwardAll how f u v (MayCome was) d (given_behind [] old) → LoadsRead how f u v (MayCome was) d (given_behind [] new) (Ok b)
+none-read how f u v d was true old new same none h = λ rest may.
+    let at_none : incoming_left old rest ≡ nothing = ap (incoming_left old) (may (sym same)) ∙ none in
+    loads-then how f u v v (d rest) (whole (incoming_left old rest)) (Ok tt) (onward-at how f u v (MayCome was) d (given_behind [] old) rest h may) (loads-end how f v (whole (incoming_left old rest)) (ap whole at_none))
+none-read how f u v d was false old new same none h = onward-all-told how f u v (MayCome was) (MayCome was) d (given_behind [] old) (given_behind [] new) (λ rest may. may) (λ rest may. ap whole (none.2 rest)) h
 
-pub none-left : {M : Type 0} {g : Ghosts M} (b : Bool) (old new : Incoming M g) → new.ended ≡ b → NoneRead b old new → NoneLeft new (Ok b)
-none-left true old new is none = tt
-none-left false old new is none = (none.0, is, none.1)
+pub none-left : {M : Type 0} {g : Ghosts M} (b : Bool) (old new : Incoming M g) → new.ended ≡ b → new.reader.stop ≡ None → NoneRead b old new → NoneLeft new (Ok b)
+none-left true old new is going none = tt
+none-left false old new is going none = (none.0, is, none.1, all-taken new none.0 going, going)
 
-pub read-stopped : {M : Type 0} {g : Ghosts M} (how : How) (f : ℕ) (u v : View) (d : Dumped) (old new : Incoming M g) (stop : Stop) (rest : List ℕ) → MayCome old.ended rest → GivesRead old new (Err stop) → Onward how f u v d (whole (incoming_left old rest)) → Loads how f u v d (Err (Dump stop))
-read-stopped how f u v d old new (Refused kind place) rest may gives h = loads-then how f u v v d (whole (incoming_left old rest)) (Err (Dump (Refused kind place))) h (loads-stopped how f v v (whole (incoming_left old rest)) (Refused kind place) refl (ap whole (gives rest may)))
-read-stopped how f u v d old new Starved rest may gives h = loads-then how f u v v d (whole (incoming_left old rest)) (Err (Dump Starved)) h (loads-stopped how f v v (whole (incoming_left old rest)) Starved refl tt)
-read-stopped how f u v d old new InputFailed rest may gives h = absurd gives
-read-stopped how f u v d old new TooLong rest may gives h = absurd gives
+pub read-stopped : {M : Type 0} {g : Ghosts M} (how : How) (f : ℕ) (u v : View) (d : Bytes → Dumped) (was : Bool) (old new : Incoming M g) (stop : Stop) → old.ended ≡ was → GivesRead old new (Err stop) → OnwardAll how f u v (MayCome was) d (given_behind [] old) → LoadsRead how f u v (MayCome was) d (given_behind [] new) (Err (Dump stop))
+read-stopped how f u v d was old new (Refused kind place) same gives h = λ rest may.
+    loads-then how f u v v (d rest) (whole (incoming_left old rest)) (Err (Dump (Refused kind place))) (onward-at how f u v (MayCome was) d (given_behind [] old) rest h may)
+    (loads-stopped how f v v (whole (incoming_left old rest)) (Refused kind place) refl (ap whole (gives rest (still-may was old.ended rest same may))))
+read-stopped how f u v d was old new Starved same gives h = λ rest may.
+    loads-then how f u v v (d rest) (whole (incoming_left old rest)) (Err (Dump Starved)) (onward-at how f u v (MayCome was) d (given_behind [] old) rest h may) (loads-stopped how f v v (whole (incoming_left old rest)) Starved refl tt)
+read-stopped how f u v d was old new InputFailed same gives h = absurd gives
+read-stopped how f u v d was old new TooLong same gives h = absurd gives
 
 pub stopped-left : {M : Type 0} {g : Ghosts M} (old new : Incoming M g) (stop : Stop) → GivesRead old new (Err stop) → NoneLeft new (Err (Dump stop))
 stopped-left old new (Refused kind place) gives = tt
@@ -71,11 +74,6 @@ stopped-for old new TooLong n m gives = absurd gives
 
 -- ---- what is read
 
-pub may-come : (ended : Bool) (told : Option (List ℕ)) (rest : List ℕ) → EndsWith ended told → told ≡ Some rest → MayCome ended rest
-may-come ended told rest ends is = λ now.
-    let e = subst (λ (t : Option (List ℕ)). EndsWith ended t) is ends now in
-    cc
-
 pub input-stopped : (how : How) (f : ℕ) (u v : View) (d e : Dumped) (stop : Stop) → (stop ≡ InputFailed) ⊎ (stop ≡ TooLong) → Onward how f u v d e → Loads how f u v d (Err (Dump stop))
 input-stopped how f u v d e (Refused kind place) which h = absurd (⊎_elim (λ (a : Refused kind place ≡ InputFailed). cc) (λ (a : Refused kind place ≡ TooLong). cc) which)
 input-stopped how f u v d e Starved which h = absurd (⊎_elim (λ (a : Starved ≡ InputFailed). cc) (λ (a : Starved ≡ TooLong). cc) which)
@@ -84,37 +82,38 @@ input-stopped how f u v d e TooLong which h = loads-then how f u v v d e (Err (D
 
 -- ---- over what a loop keeps
 
-pub still-may : (was now : Bool) (rest : List ℕ) → now ≡ was → MayCome was rest → MayCome now rest
-still-may was now rest same may = λ (ended : now ≡ true). may (sym same ∙ ended)
-
-pub item-round : {M : Type 0} {g : Ghosts M} (how : How) (f k : ℕ) (u v w : View) (first old new : Incoming M g) (o : Option Item) (item : Item) (b : Bool) (rest : List ℕ)
-    → k ≡ f → o ≡ Some item → b ≡ true → GivesRead old new (Ok o) → TakesItem how item k v w (Ok b) → MayCome old.ended rest
-    → Onward how f u v (whole (incoming_left first rest)) (whole (incoming_left old rest))
-    → Onward how f u w (whole (incoming_left first rest)) (whole (incoming_left new rest))
-item-round {g = g} how f k u v w first old new o item b rest same some goes gives takes may h =
+pub item-round : {M : Type 0} {g : Ghosts M} (how : How) (f k : ℕ) (u v w : View) (d : Bytes → Dumped) (was : Bool) (old new : Incoming M g) (o : Option Item) (item : Item) (b : Bool)
+    → k ≡ f → o ≡ Some item → b ≡ true → old.ended ≡ was → GivesRead old new (Ok o) → TakesItem how item k v w (Ok b)
+    → OnwardAll how f u v (MayCome was) d (given_behind [] old)
+    → OnwardAll how f u w (MayCome was) d (given_behind [] new)
+item-round {g = g} how f k u v w d was old new o item b same some goes ended gives takes h =
     let given_now = subst (λ (x : Option Item). GivesRead old new (Ok x)) some gives in
     let taken_on = subst (λ (x : ℕ). TakesItem how item x v w (Ok b)) same takes in
     let taken = subst (λ (x : Bool). TakesItem how item f v w (Ok x)) goes taken_on in
-    item-onward how f u v w (whole (incoming_left first rest)) (incoming_left old rest) (incoming_left new rest) item (taken_by g.taken new.reader) (given_now rest may) taken h
+    onward-all-then how f u v w (MayCome was) d (given_behind [] old) (given_behind [] new) h
+    (onward-all-item how f v w item (MayCome was) (given_behind [] old) (given_behind [] new)
+    (λ rest may. whole-given (incoming_left old rest) (incoming_left new rest) item (taken_by g.taken new.reader) (given_now rest (still-may was old.ended rest ended may))) taken.0 taken.1)
 
-pub end-round : {M : Type 0} {g : Ghosts M} (how : How) (f k : ℕ) (u v w : View) (first old new : Incoming M g) (o : Option Item) (item : Item) (b : Bool) (rest : List ℕ)
-    → k ≡ f → o ≡ Some item → b ≡ false → GivesRead old new (Ok o) → TakesItem how item k v w (Ok b) → MayCome old.ended rest
-    → Onward how f u v (whole (incoming_left first rest)) (whole (incoming_left old rest))
-    → Loads how f u w (whole (incoming_left first rest)) (Ok tt)
-end-round {g = g} how f k u v w first old new o item b rest same some goes gives takes may h =
+pub end-round : {M : Type 0} {g : Ghosts M} (how : How) (f k : ℕ) (u v w : View) (d : Bytes → Dumped) (was : Bool) (old new : Incoming M g) (o : Option Item) (item : Item) (b : Bool)
+    → k ≡ f → o ≡ Some item → b ≡ false → old.ended ≡ was → GivesRead old new (Ok o) → TakesItem how item k v w (Ok b)
+    → OnwardAll how f u v (MayCome was) d (given_behind [] old)
+    → LoadsAll how f u w (MayCome was) d (Ok tt)
+end-round {g = g} how f k u v w d was old new o item b same some goes ended gives takes h = λ rest may.
     let given_now = subst (λ (x : Option Item). GivesRead old new (Ok x)) some gives in
     let taken_on = subst (λ (x : ℕ). TakesItem how item x v w (Ok b)) same takes in
     let taken = subst (λ (x : Bool). TakesItem how item f v w (Ok x)) goes taken_on in
-    item-end how f u v w (whole (incoming_left first rest)) (incoming_left old rest) (incoming_left new rest) item (taken_by g.taken new.reader) (given_now rest may) taken h
+    item-end how f u v w (d rest) (incoming_left old rest) (incoming_left new rest) item (taken_by g.taken new.reader) (given_now rest (still-may was old.ended rest ended may)) taken
+    (onward-at how f u v (MayCome was) d (given_behind [] old) rest h may)
 
-pub refused-round : {M : Type 0} {g : Ghosts M} (how : How) (f k : ℕ) (u v w : View) (first old new : Incoming M g) (o : Option Item) (item : Item) (e : DbError) (rest : List ℕ)
-    → k ≡ f → o ≡ Some item → GivesRead old new (Ok o) → TakesItem how item k v w (Err e) → MayCome old.ended rest
-    → Onward how f u v (whole (incoming_left first rest)) (whole (incoming_left old rest))
-    → Loads how f u w (whole (incoming_left first rest)) (Err (Db e))
-refused-round {g = g} how f k u v w first old new o item e rest same some gives takes may h =
+pub refused-round : {M : Type 0} {g : Ghosts M} (how : How) (f k : ℕ) (u v w : View) (d : Bytes → Dumped) (was : Bool) (old new : Incoming M g) (o : Option Item) (item : Item) (e : DbError)
+    → k ≡ f → o ≡ Some item → old.ended ≡ was → GivesRead old new (Ok o) → TakesItem how item k v w (Err e)
+    → OnwardAll how f u v (MayCome was) d (given_behind [] old)
+    → LoadsAll how f u w (MayCome was) d (Err (Db e))
+refused-round {g = g} how f k u v w d was old new o item e same some ended gives takes h = λ rest may.
     let given_now = subst (λ (x : Option Item). GivesRead old new (Ok x)) some gives in
     let taken = subst (λ (x : ℕ). TakesItem how item x v w (Err e)) same takes in
-    item-refused how f u v w (whole (incoming_left first rest)) (incoming_left old rest) (incoming_left new rest) item (taken_by g.taken new.reader) e (given_now rest may) taken h
+    item-refused how f u v w (d rest) (incoming_left old rest) (incoming_left new rest) item (taken_by g.taken new.reader) e (given_now rest (still-may was old.ended rest ended may)) taken
+    (onward-at how f u v (MayCome was) d (given_behind [] old) rest h may)
 
 pub writes-on : (f k : ℕ) (u v w : View) → k ≡ f → OnlyWrites f u v → OnlyWrites k v w → OnlyWrites f u w
 writes-on f k u v w same one two = writes_trans one (subst (λ (x : ℕ). OnlyWrites x v w) same two)
@@ -122,60 +121,138 @@ writes-on f k u v w same one two = writes_trans one (subst (λ (x : ℕ). OnlyWr
 pub counts-on : (e : DbError) (a b c : ℕ) → b ≡ a → Counts e b c → Counts e a c
 counts-on e a b c same h = subst (λ (x : ℕ). Counts e x c) same h
 
-pub last-round : {M : Type 0} {g : Ghosts M} (how : How) (f k : ℕ) (u v w : View) (d : Dumped) (old new : Incoming M g) (b : Bool) (told : Option (List ℕ))
-    → k ≡ f → b ≡ true → EndsWith old.ended told → IsLeft told (λ rest. Onward how f u v d (whole (incoming_left old rest)))
-    → ((rest : List ℕ) → MayCome old.ended rest → LoadsRead how k v w (whole (incoming_left old rest)) (whole (incoming_left new rest)) (Ok b))
-    → Loads how f u w d (Ok tt)
-last-round how f k u v w d old new b told same goes ends left loads =
-    let rest = left.0 in
-    let reads = subst (λ (x : Bool). LoadsRead how k v w (whole (incoming_left old rest)) (whole (incoming_left new rest)) (Ok x)) goes (loads rest (may-come old.ended told rest ends left.1)) in
-    let mine = subst (λ (x : ℕ). Loads how x v w (whole (incoming_left old rest)) (Ok tt)) same reads in
-    loads-then how f u v w d (whole (incoming_left old rest)) (Ok tt) left.2 mine
+-- ---- the pages
 
-pub stopped-round : {M : Type 0} {g : Ghosts M} (how : How) (f k : ℕ) (u v w : View) (d : Dumped) (old new : Incoming M g) (ending : Ending) (told : Option (List ℕ))
-    → k ≡ f → EndsWith old.ended told → IsLeft told (λ rest. Onward how f u v d (whole (incoming_left old rest)))
-    → ((rest : List ℕ) → MayCome old.ended rest → LoadsRead how k v w (whole (incoming_left old rest)) (whole (incoming_left new rest)) (Err ending))
-    → Loads how f u w d (Err ending)
-stopped-round how f k u v w d old new ending told same ends left loads =
-    let rest = left.0 in
-    let reads = loads rest (may-come old.ended told rest ends left.1) in
-    let mine = subst (λ (x : ℕ). Loads how x v w (whole (incoming_left old rest)) (Err ending)) same reads in
-    loads-then how f u v w d (whole (incoming_left old rest)) (Err ending) left.2 mine
+pub none-of : {M : Type 0} {g : Ghosts M} (i : Incoming M g) (b : Bool) → b ≡ false → NoneLeft i (Ok b) → AllTaken i
+none-of i b goes none = subst (λ (x : Bool). NoneLeft i (Ok x)) goes none
 
-pub read-round : {M : Type 0} {g : Ghosts M} (how : How) (f k : ℕ) (u v w : View) (d : Dumped) (old new : Incoming M g) (b : Bool) (told : Option (List ℕ))
-    → k ≡ f → b ≡ false → EndsWith old.ended told → IsLeft told (λ rest. Onward how f u v d (whole (incoming_left old rest)))
-    → ((rest : List ℕ) → MayCome old.ended rest → LoadsRead how k v w (whole (incoming_left old rest)) (whole (incoming_left new rest)) (Ok b))
-    → IsLeft told (λ rest. Onward how f u w d (whole (incoming_left new rest)))
-read-round how f k u v w d old new b told same goes ends left loads =
-    let rest = left.0 in
-    let reads = subst (λ (x : Bool). LoadsRead how k v w (whole (incoming_left old rest)) (whole (incoming_left new rest)) (Ok x)) goes (loads rest (may-come old.ended told rest ends left.1)) in
-    let mine = subst (λ (x : ℕ). Onward how x v w (whole (incoming_left old rest)) (whole (incoming_left new rest))) same reads in
-    (rest, left.1, onward-then how f u v w d (whole (incoming_left old rest)) (whole (incoming_left new rest)) left.2 mine)
+-- what is told behind more bytes
+pub told-then : (a b : List ℕ) (first mid now : Option (List ℕ)) → first ≡ option_map (λ (rest : List ℕ). a ++ rest) mid → mid ≡ option_map (λ (rest : List ℕ). b ++ rest) now → first ≡ option_map (λ (rest : List ℕ). (a ++ b) ++ rest) now
+told-then a b first mid None one two = one ∙ ap (option_map (λ (rest : List ℕ). a ++ rest)) two
+told-then a b first mid (Some x) one two = one ∙ ap (option_map (λ (rest : List ℕ). a ++ rest)) two ∙ ap (λ (t : List ℕ). Some t) (sym (append_assoc a b x))
 
-pub turned-round : {M : Type 0} {g : Ghosts M} (how : How) (f : ℕ) (u v : View) (d : Dumped) (old new : Incoming M g) (told now : Option (List ℕ))
-    → IsLeft told (λ rest. Onward how f u v d (whole (incoming_left old rest)))
-    → ((bytes : List ℕ) → told ≡ Some bytes → IsLeft now (λ rest. incoming_left old bytes ≡ incoming_left new rest))
-    → IsLeft now (λ rest. Onward how f u v d (whole (incoming_left new rest)))
-turned-round how f u v d old new told now left same =
-    let on = same left.0 left.1 in
-    (on.0, on.1, onward-told how f u v d (incoming_left old left.0) (incoming_left new on.0) on.2 left.2)
+pub told-first : (o : Option (List ℕ)) → o ≡ option_map (λ (rest : List ℕ). [] ++ rest) o
+told-first None = refl
+told-first (Some x) = refl
+
+pub reached-first : {M : Type 0} {g : Ghosts M} (how : How) (f : ℕ) (u : View) (i : Incoming M g) (told : Option (List ℕ)) → ReadOn told told (Reached how f u u i i)
+reached-first how f u i told = record {
+  bytes = [];
+  front = told-first told;
+  says = record { read = omega arith; stays = λ ended. (refl, ended); on = onward-all-none how f u (MayCome i.ended) (given_behind [] i) };
+}
+
+-- the pairs of what was read
+pub reached-read : {M : Type 0} {g : Ghosts M} (how : How) (f k : ℕ) (u v w : View) (first old new : Incoming M g) (b : Bool) (bytes : List ℕ)
+    → k ≡ f → b ≡ false → new.read ≡ old.read → new.ended ≡ old.ended → Reached how f u v first old bytes
+    → LoadsRead how k v w (MayCome old.ended) (given_behind [] old) (given_behind [] new) (Ok b)
+    → Reached how f u w first new bytes
+reached-read how f k u v w first old new b bytes same goes read ended h loads =
+    let on = subst (λ (x : Bool). LoadsRead how k v w (MayCome old.ended) (given_behind [] old) (given_behind [] new) (Ok x)) goes loads in
+    let mine = subst (λ (x : ℕ). OnwardAll how x v w (MayCome old.ended) (given_behind [] old) (given_behind [] new)) same on in
+    record {
+      read = read ∙ h.read;
+      stays = λ was. ((h.stays was).0, ended ∙ (h.stays was).1);
+      on = onward-all-told how f u w (MayCome old.ended) (MayCome new.ended) (given_behind bytes first) (given_behind [] new) (given_behind [] new) (λ rest may. still-may new.ended old.ended rest (sym ended) may) (λ rest may. refl)
+          (onward-all-then how f u v w (MayCome old.ended) (given_behind bytes first) (given_behind [] old) (given_behind [] new) h.on mine);
+    }
+
+take-none : (n : ℕ) (xs : List ℕ) → n ≡ 0 → take n xs ≡ []
+take-none zero xs is = refl
+take-none (suc n) xs is = absurd (omega (arith, is))
+
+none-waits : (at end : ℕ) (xs : List ℕ) → at ≡ end → take (end - at) (drop at xs) ≡ []
+none-waits at end xs is = take-none (end - at) (drop at xs) (omega (arith, is))
+
+-- nothing was read
+pub unread-still : (old new at end n : ℕ) → new ≡ old → at ≡ end → n ≡ end - at → new ≡ old + n
+unread-still old new at end n same all size = omega (arith, same, all, size)
+
+-- a page was turned: what waits in it comes at the front of what comes
+pub turned-left : {M : Type 0} {g : Ghosts M} (old new : Incoming M g) (rest : List ℕ) → old.at ≡ old.end → new.reader ≡ old.reader → incoming_left old (waiting new ++ rest) ≡ incoming_left new rest
+turned-left {g = g} old new rest all same =
+    ap (λ (t : List ℕ). left_by g.left old.reader (t ++ (waiting new ++ rest))) (none-waits old.at old.end old.page all)
+    ∙ ap (λ (r : Reader _). left_by g.left r (waiting new ++ rest)) (sym same)
+
+pub reached-turned : {M : Type 0} {g : Ghosts M} (how : How) (f : ℕ) (u v : View) (first old new : Incoming M g) (bytes : List ℕ)
+    → old.at ≡ old.end → old.ended ≡ false → new.reader ≡ old.reader → new.read ≡ old.read + length (waiting new) → Reached how f u v first old bytes → Reached how f u v first new (bytes ++ waiting new)
+reached-turned how f u v first old new bytes all going same read h =
+    let len = length-append bytes (waiting new) in
+    let was = h.read in
+    record {
+      read = omega (arith, len, was, read);
+      stays = λ was. absurd (let no : true ≡ false = sym (h.stays was).1 ∙ going in cc);
+      on = record {
+        pairs = h.on.pairs;
+        is = λ rest may.
+            ap (λ (t : List ℕ). whole (incoming_left first t)) (append_assoc bytes (waiting new) rest)
+            ∙ h.on.is (waiting new ++ rest) (λ (ended : old.ended ≡ true). absurd (let no : true ≡ false = sym ended ∙ going in cc))
+            ∙ ap (λ (t : Told). behind h.on.pairs (whole t)) (turned-left old new rest all same);
+        stored = h.on.stored;
+      };
+    }
+
+-- the load ends in what was read
+pub ended-read : {M : Type 0} {g : Ghosts M} (how : How) (f k : ℕ) (u v w : View) (first old new : Incoming M g) (bytes : List ℕ) (r : Result (Unit {0}) Ending)
+    → k ≡ f → new.read ≡ old.read → new.ended ≡ old.ended → Reached how f u v first old bytes → LoadsAll how k v w (MayCome old.ended) (given_behind [] old) r → LeftAfter how f u w first new bytes r
+    → LoadsOn how f u w first new r bytes
+ended-read how f k u v w first old new bytes r same read ended h loads left = record {
+  read = read ∙ h.read;
+  stays = λ was. ((h.stays was).0, ended ∙ (h.stays was).1);
+  loads = λ rest may.
+      let was = still-may new.ended old.ended rest (sym ended) may in
+      loads-then how f u v w (given_behind bytes first rest) (given_behind [] old rest) r (onward-at how f u v (MayCome old.ended) (given_behind bytes first) (given_behind [] old) rest h.on was)
+      (subst (λ (x : ℕ). Loads how x v w (given_behind [] old rest) r) same (loads rest was));
+  left = left;
+}
+
+pub ended-ok : {M : Type 0} {g : Ghosts M} (how : How) (f k : ℕ) (u v w : View) (first old new : Incoming M g) (bytes : List ℕ) (b : Bool)
+    → k ≡ f → b ≡ true → new.read ≡ old.read → new.ended ≡ old.ended → Reached how f u v first old bytes → LoadsRead how k v w (MayCome old.ended) (given_behind [] old) (given_behind [] new) (Ok b)
+    → LoadsOn how f u w first new (Ok tt) bytes
+ended-ok how f k u v w first old new bytes b same goes read ended h loads =
+    let on = subst (λ (x : Bool). LoadsRead how k v w (MayCome old.ended) (given_behind [] old) (given_behind [] new) (Ok x)) goes loads in
+    ended-read how f k u v w first old new bytes (Ok tt) same read ended h on tt
+
+left-none : {M : Type 0} {g : Ghosts M} (how : How) (f : ℕ) (u v : View) (first new : Incoming M g) (bytes : List ℕ) (ending : Ending) → NoneLeft new (Err ending) → LeftAfter how f u v first new bytes (Err ending)
+left-none how f u v first new bytes (Dump (Refused kind place)) none = tt
+left-none how f u v first new bytes (Dump InputFailed) none = absurd none
+left-none how f u v first new bytes (Dump TooLong) none = absurd none
+left-none how f u v first new bytes (Dump Starved) none = tt
+left-none how f u v first new bytes (Db e) none = tt
+
+pub ended-stop : {M : Type 0} {g : Ghosts M} (how : How) (f k : ℕ) (u v w : View) (first old new : Incoming M g) (bytes : List ℕ) (ending : Ending)
+    → k ≡ f → new.read ≡ old.read → new.ended ≡ old.ended → Reached how f u v first old bytes → NoneLeft new (Err ending) → LoadsAll how k v w (MayCome old.ended) (given_behind [] old) (Err ending)
+    → LoadsOn how f u w first new (Err ending) bytes
+ended-stop how f k u v w first old new bytes ending same read ended h none loads = ended-read how f k u v w first old new bytes (Err ending) same read ended h loads (left-none how f u w first new bytes ending none)
+
+-- the source ends the load
+pub ended-input : {M : Type 0} {g : Ghosts M} (how : How) (f : ℕ) (u v : View) (first now : Incoming M g) (bytes : List ℕ) (stop : Stop) → (stop ≡ InputFailed) ⊎ (stop ≡ TooLong) → Reached how f u v first now bytes → LoadsOn how f u v first now (Err (Dump stop)) bytes
+ended-input how f u v first now bytes (Refused kind place) which h = absurd (⊎_elim (λ (a : Refused kind place ≡ InputFailed). cc) (λ (a : Refused kind place ≡ TooLong). cc) which)
+ended-input how f u v first now bytes Starved which h = absurd (⊎_elim (λ (a : Starved ≡ InputFailed). cc) (λ (a : Starved ≡ TooLong). cc) which)
+ended-input how f u v first now bytes InputFailed which h = record {
+  read = h.read;
+  stays = h.stays;
+  loads = λ rest may. input-stopped how f u v (given_behind bytes first rest) (given_behind [] now rest) InputFailed which (onward-at how f u v (MayCome now.ended) (given_behind bytes first) (given_behind [] now) rest h.on may);
+  left = h;
+}
+ended-input how f u v first now bytes TooLong which h = record {
+  read = h.read;
+  stays = h.stays;
+  loads = λ rest may. input-stopped how f u v (given_behind bytes first rest) (given_behind [] now rest) TooLong which (onward-at how f u v (MayCome now.ended) (given_behind bytes first) (given_behind [] now) rest h.on may);
+  left = h;
+}
 
 pub stops-from : (stop : Stop) (was before now read : ℕ) → before ≡ was → StopsFor stop before now read → StopsFor stop was now read
 stops-from stop was before now read same h = subst (λ (x : ℕ). StopsFor stop x now read) same h
 
--- ---- what is still given
+none-still : {M : Type 0} {g : Ghosts M} (old new : Incoming M g) → AllTaken old → new.at ≡ new.end → new.ended ≡ false → new.reader ≡ old.reader → AllTaken new
+none-still {g = g} old new all at ended same =
+    let going : new.reader.stop ≡ None = ap (λ (r : Reader _). r.stop) same ∙ all.4 in
+    (at, ended, subst (λ (r : Reader _). NoneEnds (left_by g.left r) (taken_by g.taken r)) (sym same) all.2, all-taken new at going, going)
 
-pub left-after : {M : Type 0} {g : Ghosts M} (how : How) (f : ℕ) (u v : View) (d : Dumped) (i : Incoming M g) (told : Option (List ℕ)) (stop : Stop)
-    → IsLeft told (λ rest. Onward how f u v d (whole (incoming_left i rest))) → LeftAfter how f u v d i told (Err (Dump stop))
-left-after how f u v d i told (Refused kind place) left = tt
-left-after how f u v d i told InputFailed left = left
-left-after how f u v d i told TooLong left = left
-left-after how f u v d i told Starved left = tt
-
-pub left-none : {M : Type 0} {g : Ghosts M} (how : How) (f : ℕ) (u v : View) (d : Dumped) (i : Incoming M g) (told : Option (List ℕ)) (ending : Ending)
-    → NoneLeft i (Err ending) → LeftAfter how f u v d i told (Err ending)
-left-none how f u v d i told (Dump (Refused kind place)) none = tt
-left-none how f u v d i told (Dump InputFailed) none = absurd none
-left-none how f u v d i told (Dump TooLong) none = absurd none
-left-none how f u v d i told (Dump Starved) none = tt
-left-none how f u v d i told (Db e) none = tt
+-- nothing more ends in what was read, where the source ends the load
+pub none-after : {M : Type 0} {g : Ghosts M} (old new : Incoming M g) (stop : Stop) → AllTaken old → new.at ≡ new.end → new.ended ≡ false → new.reader ≡ old.reader → NoneAfter new (Err (Dump stop))
+none-after old new (Refused kind place) all at ended same = tt
+none-after old new Starved all at ended same = tt
+none-after {g = g} old new InputFailed all at ended same = none-still old new all at ended same
+none-after {g = g} old new TooLong all at ended same = none-still old new all at ended same

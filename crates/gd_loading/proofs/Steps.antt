@@ -10,7 +10,7 @@ use Rattle.gd_dump_reading.specs.declared.items.Item.TheVariants.{Head, Pair, En
 use Rattle.gd_format.specs.File.{front_of, records}
 use Rattle.gd_format.specs.HeaderFault.{header_of}
 use Rattle.gd_format.specs.declared.Header.{Header}
-use Rattle.gd_loading.specs.Loads.{Bytes, Dumped, Ended, IsLoading, IsTail, Loads, Onward, Stored, StoredOne, TakesItem, UnlessFault, at_end, behind, due_of, is_broken_by, is_end, item_before, pair_in}
+use Rattle.gd_loading.specs.Loads.{Bytes, Dumped, Ended, IsLoading, IsTail, Loads, Onward, OnwardAll, Stored, StoredOne, TakesItem, UnlessFault, at_end, behind, due_of, is_broken_by, is_end, item_before, pair_in}
 use Rattle.gd_loading.specs.declared.taking.Ending.{Ending}
 use Rattle.gd_loading.specs.declared.taking.Ending.TheVariants.{Dump, Db}
 use Rattle.gd_map_laws.specs.Maps.{pair_map}
@@ -51,6 +51,37 @@ onward-then how f u v w d e g one two = record {
   is = one.is ∙ ap (behind one.pairs) two.is ∙ behind-behind one.pairs two.pairs g;
   stored = becomes_then u v w f (Stored how one.pairs) (Stored how two.pairs) (Stored how (one.pairs ++ two.pairs)) (stored-then how one.pairs two.pairs) one.stored two.stored;
 }
+
+-- ---- the same whatever comes
+
+pub onward-all-none : (how : How) (f : ℕ) (u : View) (may : Bytes → Type 0) (d : Bytes → Dumped) → OnwardAll how f u u may d d
+onward-all-none how f u may d = record { pairs = []; is = λ rest m. refl; stored = none-stored how f u u refl }
+
+pub onward-at : (how : How) (f : ℕ) (u v : View) (may : Bytes → Type 0) (d e : Bytes → Dumped) (rest : Bytes) → OnwardAll how f u v may d e → may rest → Onward how f u v (d rest) (e rest)
+onward-at how f u v may d e rest all m = record { pairs = all.pairs; is = all.is rest m; stored = all.stored }
+
+pub onward-all-then : (how : How) (f : ℕ) (u v w : View) (may : Bytes → Type 0) (d e g : Bytes → Dumped) → OnwardAll how f u v may d e → OnwardAll how f v w may e g → OnwardAll how f u w may d g
+onward-all-then how f u v w may d e g one two = record {
+  pairs = one.pairs ++ two.pairs;
+  is = λ rest m. one.is rest m ∙ ap (behind one.pairs) (two.is rest m) ∙ behind-behind one.pairs two.pairs (g rest);
+  stored = becomes_then u v w f (Stored how one.pairs) (Stored how two.pairs) (Stored how (one.pairs ++ two.pairs)) (stored-then how one.pairs two.pairs) one.stored two.stored;
+}
+
+-- the same by other names of what is told
+pub onward-all-told : (how : How) (f : ℕ) (u v : View) (may may' : Bytes → Type 0) (d e e' : Bytes → Dumped) → ((rest : Bytes) → may' rest → may rest) → ((rest : Bytes) → may' rest → e rest ≡ e' rest) → OnwardAll how f u v may d e → OnwardAll how f u v may' d e'
+onward-all-told how f u v may may' d e e' fewer same all = record {
+  pairs = all.pairs;
+  is = λ rest m. all.is rest (fewer rest m) ∙ ap (behind all.pairs) (same rest m);
+  stored = all.stored;
+}
+
+item-behind : (item : Item) (d e : Dumped) → d ≡ item_before item e → is_end item ≡ false → d ≡ behind (pair_in item) e
+item-behind (Head h) d e is more = is
+item-behind (Pair key value) d e is more = is
+item-behind End d e is more = absurd (let no : true ≡ false = more in cc)
+
+pub onward-all-item : (how : How) (f : ℕ) (u v : View) (item : Item) (may : Bytes → Type 0) (d e : Bytes → Dumped) → ((rest : Bytes) → may rest → d rest ≡ item_before item (e rest)) → is_end item ≡ false → FileBecomes u v f (Stored how (pair_in item)) → OnwardAll how f u v may d e
+onward-all-item how f u v item may d e is more stored = record { pairs = pair_in item; is = λ rest m. item-behind item (d rest) (e rest) (is rest m) more; stored = stored }
 
 unless-then : (T : Type 0) (r : Result T Ending) (A B : Type 0) → (A → B) → UnlessFault r A → UnlessFault r B
 unless-then T (Ok x) A B f h = f h

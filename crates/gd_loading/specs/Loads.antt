@@ -1,5 +1,5 @@
 -- What a dump gives behind its head, and what storing its pairs makes of a database.
-use Rattle.std.specs.Prelude.{◌≡◌, ℕ, Bool, true, false, List, [], ◌∷◌, ◌++◌, Option, Some, None, Result, Ok, Err}
+use Rattle.std.specs.Prelude.{◌≡◌, ℕ, ◌+◌, Bool, true, false, List, [], ◌∷◌, ◌++◌, length, Option, Some, None, Result, Ok, Err}
 use Rattle.std.specs.FinMap.{insert}
 use Rattle.gd_base.specs.declared.errors.DbError.{DbError}
 use Rattle.gd_base.specs.declared.errors.DbError.TheVariants.{VaultFault}
@@ -11,7 +11,7 @@ use Rattle.gd_dump_reading.specs.declared.items.Item.TheVariants.{Head, Pair, En
 use Rattle.gd_dump_reading.specs.declared.machine.Machine.{Ghosts}
 use Rattle.gd_file_laws.specs.Parts.{file_header}
 use Rattle.gd_format.specs.File.{records}
-use Rattle.gd_load.specs.Items.{IsLeft, StopsFor, incoming_left}
+use Rattle.gd_load.specs.Items.{MayCome, StopsFor, incoming_left}
 use Rattle.gd_load.specs.declared.incoming.Incoming.{Incoming}
 use Rattle.gd_load.specs.declared.incoming.Stop.TheVariants.{Refused, InputFailed, TooLong}
 use Rattle.gd_loading.specs.declared.taking.Ending.{Ending}
@@ -105,6 +105,12 @@ pub record Onward (how : How) (f : ℕ) (u v : View) (d e : Dumped) : Type 0 whe
   pub is : d ≡ behind pairs e
   pub stored : FileBecomes u v f (Stored how pairs)
 
+-- the same whatever comes: d and e are what is told before and behind these pairs, by what is left of the source
+pub record OnwardAll (how : How) (f : ℕ) (u v : View) (may : Bytes → Type 0) (d e : Bytes → Dumped) : Type 0 where
+  pub pairs : List (Bytes × Bytes)
+  pub is : (rest : Bytes) → may rest → d rest ≡ behind pairs (e rest)
+  pub stored : FileBecomes u v f (Stored how pairs)
+
 -- the next pair was refused, by the file as it stands
 pub record PairRefused (how : How) (f : ℕ) (v : View) (e : DbError) (tail : Dumped) : Type 0 where
   pub pair : Bytes × Bytes
@@ -131,11 +137,15 @@ abbrev pub Loads : How → ℕ → View → View → Dumped → Result (Unit {0}
 Loads how f u v d (Ok x) = Ended how f u v d (Ok x) (λ tail. tail ≡ at_end)
 Loads how f u v d (Err e) = Ended {T = Unit {0}} how f u v d (Err e) (IsTail how f v e)
 
+-- so it is whatever comes
+abbrev pub LoadsAll : How → ℕ → View → View → (may : Bytes → Type 0) → (d : Bytes → Dumped) → Result (Unit {0}) Ending → Type 0
+LoadsAll how f u v may d r = (rest : Bytes) → may rest → Loads how f u v (d rest) r
+
 -- the pairs of what was read were stored: true where the dump is at its end
-abbrev pub LoadsRead : How → ℕ → View → View → (d e : Dumped) → Result Bool Ending → Type 0
-LoadsRead how f u v d e (Ok true) = Loads how f u v d (Ok tt)
-LoadsRead how f u v d e (Ok false) = Onward how f u v d e
-LoadsRead how f u v d e (Err ending) = Loads how f u v d (Err ending)
+abbrev pub LoadsRead : How → ℕ → View → View → (may : Bytes → Type 0) → (d e : Bytes → Dumped) → Result Bool Ending → Type 0
+LoadsRead how f u v may d e (Ok true) = LoadsAll how f u v may d (Ok tt)
+LoadsRead how f u v may d e (Ok false) = OnwardAll how f u v may d e
+LoadsRead how f u v may d e (Err ending) = LoadsAll how f u v may d (Err ending)
 
 -- one item was taken: true where more may come
 abbrev pub TakesItem : How → Item → ℕ → View → View → Result Bool DbError → Type 0
@@ -156,17 +166,38 @@ abbrev pub is_broken_by : {T : Type 0} → Result T Ending → Bool
 is_broken_by (Err (Db VaultFault)) = true
 is_broken_by r = false
 
+-- all that was read was taken, no item ends there, and the dump was not refused
+abbrev pub AllTaken : {M : Type 0} {g : Ghosts M} → Incoming M g → Type 0
+AllTaken {g = g} i = (i.at ≡ i.end) × (i.ended ≡ false) × NoneEnds (left_by g.left i.reader) (taken_by g.taken i.reader) × (taken_by g.taken i.reader ≡ i.read) × (i.reader.stop ≡ None)
+
 -- after a fault of the input, or an input that is too long, no other item ends in the bytes that were taken
 abbrev pub NoneAfter : {M : Type 0} {g : Ghosts M} → Incoming M g → Result (Unit {0}) Ending → Type 0
-NoneAfter {g = g} i (Err (Dump InputFailed)) = NoneEnds (left_by g.left i.reader) (taken_by g.taken i.reader)
-NoneAfter {g = g} i (Err (Dump TooLong)) = NoneEnds (left_by g.left i.reader) (taken_by g.taken i.reader)
+NoneAfter i (Err (Dump InputFailed)) = AllTaken i
+NoneAfter i (Err (Dump TooLong)) = AllTaken i
 NoneAfter i r = Unit {0}
 
+-- what a dump still gives, by what comes behind these bytes
+abbrev pub given_behind : {M : Type 0} {g : Ghosts M} → Bytes → Incoming M g → Bytes → Dumped
+given_behind bytes i rest = whole (incoming_left i (bytes ++ rest))
+
+-- these bytes were read of the source, and the pairs before what is still given were stored
+pub record Reached {M : Type 0} {g : Ghosts M} (how : How) (f : ℕ) (u v : View) (old now : Incoming M g) (bytes : Bytes) : Type 0 where
+  pub read : now.read ≡ old.read + length bytes
+  pub stays : old.ended ≡ true → (bytes ≡ []) × (now.ended ≡ true)
+  pub on : OnwardAll how f u v (MayCome now.ended) (given_behind bytes old) (given_behind [] now)
+
 -- after a fault of the input, or an input that is too long, what is still given comes right behind the pairs that were stored
-abbrev pub LeftAfter : {M : Type 0} {g : Ghosts M} → How → ℕ → View → View → Dumped → Incoming M g → Option (List ℕ) → Result (Unit {0}) Ending → Type 0
-LeftAfter how f u v d i told (Err (Dump InputFailed)) = IsLeft told (λ rest. Onward how f u v d (whole (incoming_left i rest)))
-LeftAfter how f u v d i told (Err (Dump TooLong)) = IsLeft told (λ rest. Onward how f u v d (whole (incoming_left i rest)))
-LeftAfter how f u v d i told r = Unit {0}
+abbrev pub LeftAfter : {M : Type 0} {g : Ghosts M} → How → ℕ → View → View → (old new : Incoming M g) → Bytes → Result (Unit {0}) Ending → Type 0
+LeftAfter how f u v old new bytes (Err (Dump InputFailed)) = Reached how f u v old new bytes
+LeftAfter how f u v old new bytes (Err (Dump TooLong)) = Reached how f u v old new bytes
+LeftAfter how f u v old new bytes r = Unit {0}
+
+-- these bytes were read of the source, and the dump's pairs were stored up to its end or a stop, whatever comes behind them
+pub record LoadsOn {M : Type 0} {g : Ghosts M} (how : How) (f : ℕ) (u v : View) (old new : Incoming M g) (r : Result (Unit {0}) Ending) (bytes : Bytes) : Type 0 where
+  pub read : new.read ≡ old.read + length bytes
+  pub stays : old.ended ≡ true → (bytes ≡ []) × (new.ended ≡ true)
+  pub loads : LoadsAll how f u v (MayCome new.ended) (given_behind bytes old) r
+  pub left : LeftAfter how f u v old new bytes r
 
 -- the answer of an item as that of a load
 abbrev pub item_cause : Result Bool DbError → Result Bool Ending
@@ -175,8 +206,8 @@ item_cause (Err e) = Err (Db e)
 
 -- where more is to be read, all that was read was taken, and no item ends there
 abbrev pub NoneLeft : {M : Type 0} {g : Ghosts M} → Incoming M g → Result Bool Ending → Type 0
-NoneLeft {g = g} i (Ok false) = (i.at ≡ i.end) × (i.ended ≡ false) × NoneEnds (left_by g.left i.reader) (taken_by g.taken i.reader)
+NoneLeft i (Ok false) = AllTaken i
 NoneLeft i (Ok true) = Unit {0}
-NoneLeft {g = g} i (Err (Dump InputFailed)) = ⊥
-NoneLeft {g = g} i (Err (Dump TooLong)) = ⊥
+NoneLeft i (Err (Dump InputFailed)) = ⊥
+NoneLeft i (Err (Dump TooLong)) = ⊥
 NoneLeft i (Err e) = Unit {0}

@@ -1,9 +1,9 @@
 //! The pairs of a dump, stored as they come.
 
-ghost use Rattle.std.specs.Prelude.{◌≡◌, ◌||◌, ℕ, List, IfErr, Some, true, false};
+ghost use Rattle.std.specs.Prelude.{◌≡◌, ◌||◌, ℕ, [], IfErr, true, false};
 ghost use Rattle.gd_base.specs.declared.errors.DbError.TheVariants as errors;
-ghost use Rattle.gd_load.specs.Items.{EndsWith, IsLeft, MayCome, StopsFor, incoming_left};
-ghost use Rattle.gd_loading.specs.Loads.{CausedBy, IsLoading, LeftAfter, Loads, LoadsRead, NoneAfter, NoneLeft, TakesItem, is_broken_by, item_cause, whole};
+ghost use Rattle.gd_load.specs.Items.{EndsWith, MayCome, ReadOn, StopsFor};
+ghost use Rattle.gd_loading.specs.Loads.{CausedBy, IsLoading, LoadsOn, LoadsRead, NoneAfter, NoneLeft, TakesItem, given_behind, is_broken_by, item_cause};
 ghost use Rattle.gd_store.specs.Changed.{Keeps};
 ghost use Rattle.gd_store.specs.Opened.{Fits};
 ghost use Rattle.gd_vault.specs.Streams.{OnlyWrites};
@@ -65,7 +65,7 @@ fn take_read<M: Machine, V: Vault>(
     ensures keeps { Keeps store.old store.new }
     ensures breaks { store.new.broken ≡ is_broken_by result }
     ensures frame { OnlyWrites store.old.file (V.view_of vault.old) (V.view_of vault.new) }
-    ensures loads { (rest : List ℕ) → MayCome incoming.old.ended rest → LoadsRead how store.old.file (V.view_of vault.old) (V.view_of vault.new) (whole (incoming_left incoming.old rest)) (whole (incoming_left incoming.new rest)) result }
+    ensures loads { LoadsRead how store.old.file (V.view_of vault.old) (V.view_of vault.new) (MayCome incoming.old.ended) (given_behind [] incoming.old) (given_behind [] incoming.new) result }
     ensures none { NoneLeft incoming.new result }
     ensures cause { (n m : ℕ) → CausedBy result n n m (V.view_of vault.old).faults (V.view_of vault.new).faults }
     ensures rest { (incoming.new.read ≡ incoming.old.read) × (incoming.new.ended ≡ incoming.old.ended) }
@@ -101,9 +101,9 @@ pub fn store_pairs<M: Machine, S: Source, V: Vault>(
     ensures keeps { Keeps store.old store.new }
     ensures breaks { store.new.broken ≡ is_broken_by result }
     ensures frame { OnlyWrites store.old.file (V.view_of vault.old) (V.view_of vault.new) }
-    ensures loads { (bytes : List ℕ) → S.left input.old ≡ Some bytes → Loads how store.old.file (V.view_of vault.old) (V.view_of vault.new) (whole (incoming_left incoming.old bytes)) result }
+    ensures loads { ReadOn (S.left input.old) (S.left input.new) (LoadsOn how store.old.file (V.view_of vault.old) (V.view_of vault.new) incoming.old incoming.new result) }
     ensures none { NoneAfter incoming.new result }
-    ensures left { (bytes : List ℕ) → S.left input.old ≡ Some bytes → LeftAfter how store.old.file (V.view_of vault.old) (V.view_of vault.new) (whole (incoming_left incoming.old bytes)) incoming.new (S.left input.new) result }
+    ensures ended { EndsWith incoming.new.ended (S.left input.new) }
     ensures cause { CausedBy result (S.fault_count input.old) (S.fault_count input.new) incoming.new.read (V.view_of vault.old).faults (V.view_of vault.new).faults }
 {
     'pages: loop {

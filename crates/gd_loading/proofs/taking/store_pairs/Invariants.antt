@@ -1,6 +1,6 @@
-use Rattle.std.proofs.Common.{◌≡◌, ℕ, List, Some}
-use Rattle.gd_load.specs.Items.{EndsWith, IsLeft, incoming_left, pages_left}
-use Rattle.gd_loading.specs.Loads.{IsLoading, Onward, whole}
+use Rattle.std.proofs.Common.{◌≡◌, ℕ}
+use Rattle.gd_load.specs.Items.{EndsWith, ReadOn, pages_left}
+use Rattle.gd_loading.specs.Loads.{IsLoading, Reached}
 use Rattle.gd_store.specs.Changed.{Keeps}
 use Rattle.gd_vault.specs.Streams.{OnlyWrites}
 use Rattle.gd_loading.proofs.taking.store_pairs.Given as goal
@@ -13,7 +13,7 @@ invariant-pages g l =
       loading : IsLoading now l.store;
       keeps : Keeps l.fn.store l.store;
       frame : OnlyWrites l.fn.store.file before now;
-      onward : (bytes : List ℕ) → g.S.Source.left l.fn.input ≡ Some bytes → IsLeft (g.S.Source.left l.input) (λ rest. Onward l.how l.fn.store.file before now (whole (incoming_left l.fn.incoming bytes)) (whole (incoming_left l.incoming rest)));
+      reached : ReadOn (g.S.Source.left l.fn.input) (g.S.Source.left l.input) (Reached l.how l.fn.store.file before now l.fn.incoming l.incoming);
       faults : now.faults ≡ before.faults;
       count : g.S.Source.fault_count l.input ≡ g.S.Source.fault_count l.fn.input;
       ended : EndsWith l.incoming.ended (g.S.Source.left l.input);

@@ -1,5 +1,6 @@
-use Rattle.std.proofs.Common.{◌∙◌, refl}
-use Rattle.gd_loading.proofs.Rounds.{counts-on, end-round, item-round, refused-round, still-may, writes-on}
+use Rattle.std.proofs.Common.{◌∙◌, refl, []}
+use Rattle.gd_loading.specs.Loads.{given_behind}
+use Rattle.gd_loading.proofs.Rounds.{counts-on, end-round, item-round, none-left, none-read, read-stopped, refused-round, stopped-left, writes-on}
 use Rattle.gd_loading.proofs.Steps.{keeps-then, still-loading}
 use Rattle.gd_loading.proofs.taking.take_read.Goals as goal
 
@@ -14,10 +15,8 @@ items-preserved g c =
       loading = still-loading v w c.items.store c.take_item.new.store inv.loading e.there e.fits e.keeps e.breaks;
       keeps = keeps-then c.args.store.now c.items.store c.take_item.new.store inv.keeps e.keeps;
       frame = writes-on c.args.store.now.file c.items.store.file u v w inv.keeps.file inv.frame e.frame;
-      onward = λ rest may.
-          item-round c.args.how c.args.store.now.file c.items.store.file u v w c.args.incoming.now c.items.incoming c.next_read.new.self c.in-Ok-Some.field-0 c.in-Ok-Some.item c.in-Ok-true.field-0 rest
-          inv.keeps.file c.in-Ok-Some.field-0-is c.in-Ok-true.field-0-test c.in-Ok-Some.ensures.gives e.takes
-          (still-may c.args.incoming.now.ended c.items.incoming.ended rest inv.ended may) (inv.onward rest may);
+      onward = item-round c.args.how c.args.store.now.file c.items.store.file u v w (given_behind [] c.args.incoming.now) c.args.incoming.now.ended c.items.incoming c.next_read.new.self c.in-Ok-Some.field-0 c.in-Ok-Some.item c.in-Ok-true.field-0
+          inv.keeps.file c.in-Ok-Some.field-0-is c.in-Ok-true.field-0-test inv.ended c.in-Ok-Some.ensures.gives e.takes inv.onward;
       faults = (e.cause 0 0).1 ∙ inv.faults;
       read = c.in-Ok-Some.ensures.rest.0 ∙ inv.read;
       ended = c.in-Ok-Some.ensures.rest.1 ∙ inv.ended;
@@ -28,12 +27,11 @@ returns-in-Ok-false-clause-frame g c =
     writes-on c.args.store.now.file c.items.store.file (g.V.Vault.view_of c.args.vault.now) (g.V.Vault.view_of c.items.vault) (g.V.Vault.view_of c.take_item.new.vault) c.items.invariant.keeps.file c.items.invariant.frame c.take_item.ensures.frame
 
 pub returns-in-Ok-false-clause-loads : goal.returns-in-Ok-false-clause-loads
-returns-in-Ok-false-clause-loads g c = λ rest may.
+returns-in-Ok-false-clause-loads g c =
     let inv = c.items.invariant in
     end-round c.args.how c.args.store.now.file c.items.store.file (g.V.Vault.view_of c.args.vault.now) (g.V.Vault.view_of c.items.vault) (g.V.Vault.view_of c.take_item.new.vault)
-    c.args.incoming.now c.items.incoming c.next_read.new.self c.in-Ok-Some.field-0 c.in-Ok-Some.item c.in-Ok-false.field-0 rest
-    inv.keeps.file c.in-Ok-Some.field-0-is c.in-Ok-false.field-0-test c.in-Ok-Some.ensures.gives c.in-Ok-false.ensures.takes
-    (still-may c.args.incoming.now.ended c.items.incoming.ended rest inv.ended may) (inv.onward rest may)
+    (given_behind [] c.args.incoming.now) c.args.incoming.now.ended c.items.incoming c.next_read.new.self c.in-Ok-Some.field-0 c.in-Ok-Some.item c.in-Ok-false.field-0
+    inv.keeps.file c.in-Ok-Some.field-0-is c.in-Ok-false.field-0-test inv.ended c.in-Ok-Some.ensures.gives c.in-Ok-false.ensures.takes inv.onward
 
 pub returns-in-Ok-false-clause-cause : goal.returns-in-Ok-false-clause-cause
 returns-in-Ok-false-clause-cause g c = λ n m. (refl, (c.in-Ok-false.ensures.cause n m).1 ∙ c.items.invariant.faults)
@@ -43,12 +41,11 @@ returns-in-Err-take_item-clause-frame g c =
     writes-on c.args.store.now.file c.items.store.file (g.V.Vault.view_of c.args.vault.now) (g.V.Vault.view_of c.items.vault) (g.V.Vault.view_of c.take_item.new.vault) c.items.invariant.keeps.file c.items.invariant.frame c.take_item.ensures.frame
 
 pub returns-in-Err-take_item-clause-loads : goal.returns-in-Err-take_item-clause-loads
-returns-in-Err-take_item-clause-loads g c = λ rest may.
+returns-in-Err-take_item-clause-loads g c =
     let inv = c.items.invariant in
     refused-round c.args.how c.args.store.now.file c.items.store.file (g.V.Vault.view_of c.args.vault.now) (g.V.Vault.view_of c.items.vault) (g.V.Vault.view_of c.take_item.new.vault)
-    c.args.incoming.now c.items.incoming c.next_read.new.self c.in-Ok-Some.field-0 c.in-Ok-Some.item c.in-Err-take_item.e rest
-    inv.keeps.file c.in-Ok-Some.field-0-is c.in-Ok-Some.ensures.gives c.in-Err-take_item.ensures.takes
-    (still-may c.args.incoming.now.ended c.items.incoming.ended rest inv.ended may) (inv.onward rest may)
+    (given_behind [] c.args.incoming.now) c.args.incoming.now.ended c.items.incoming c.next_read.new.self c.in-Ok-Some.field-0 c.in-Ok-Some.item c.in-Err-take_item.e
+    inv.keeps.file c.in-Ok-Some.field-0-is inv.ended c.in-Ok-Some.ensures.gives c.in-Err-take_item.ensures.takes inv.onward
 
 pub returns-in-Err-take_item-clause-cause : goal.returns-in-Err-take_item-clause-cause
 returns-in-Err-take_item-clause-cause g c = λ n m.

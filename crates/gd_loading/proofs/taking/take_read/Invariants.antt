@@ -1,6 +1,6 @@
 use Rattle.std.proofs.Common.{◌≡◌, ℕ, List, [], length}
 use Rattle.gd_load.specs.Items.{MayCome, incoming_left}
-use Rattle.gd_loading.specs.Loads.{IsLoading, Onward, whole}
+use Rattle.gd_loading.specs.Loads.{IsLoading, OnwardAll, given_behind}
 use Rattle.gd_store.specs.Changed.{Keeps}
 use Rattle.gd_vault.specs.Streams.{OnlyWrites}
 use Rattle.gd_loading.proofs.taking.take_read.Given as goal
@@ -14,7 +14,7 @@ invariant-items g l =
       loading : IsLoading now l.store;
       keeps : Keeps l.fn.store l.store;
       frame : OnlyWrites l.fn.store.file before now;
-      onward : (rest : List ℕ) → MayCome l.fn.incoming.ended rest → Onward l.how l.fn.store.file before now (whole (incoming_left l.fn.incoming rest)) (whole (incoming_left l.incoming rest));
+      onward : OnwardAll l.how l.fn.store.file before now (MayCome l.fn.incoming.ended) (given_behind [] l.fn.incoming) (given_behind [] l.incoming);
       faults : now.faults ≡ before.faults;
       read : l.incoming.read ≡ l.fn.incoming.read;
       ended : l.incoming.ended ≡ l.fn.incoming.ended;
