@@ -1,7 +1,7 @@
 # make                builds all programs into bin/
 # make help           lists the targets
 
-PROGRAMS = gdbm_dump gdbmtool
+PROGRAMS = gdbm_dump gdbm_load gdbmtool
 PREFIX ?= /usr/local
 DB ?= crates/gdbm_dump/data/a.gdbm
 

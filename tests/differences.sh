@@ -3,7 +3,7 @@
 # usage: tests/differences.sh BIN_DIR       (skipped, with status 0, where GNU's programs 1.23 are missing)
 set -u
 bin=$(cd "${1:?usage: tests/differences.sh BIN_DIR}" && pwd) || exit 2
-for program in gdbm_dump gdbmtool; do
+for program in gdbm_dump gdbm_load gdbmtool; do
     [ -x "$bin/$program" ] || { echo "differences: $bin lacks $program"; exit 2; }
 done
 
@@ -207,6 +207,53 @@ is "an empty value" 0 "$(told 'store e ""\n' "$gnu_tool" -N -q empty)"
 is "dumps of an empty value" "$("$gnu_dump" empty | sed -n '/^# End of header/,$p')" "$("$bin/gdbm_dump" empty | sed -n '/^# End of header/,$p')"
 "$gnu_dump" empty >empty.txt
 is "it is refused by GNU" 1 "$("$gnu_load" empty.txt l.gdbm >out 2>&1; echo $?)"
+
+# --- gdbm_load
+
+# both WHAT GNUS OURS WORD..: the status of a run over a database with the record `q`, and how many records it has then
+both() {
+    local what=$1 gnus=$2 ours=$3 load got
+    shift 3
+    for load in "$gnu_load" "$bin/gdbm_load"; do
+        printf 'store q w\n' | "$bin/gdbmtool" -n t.gdbm
+        timeout 10 "$load" "$@" >out 2>err </dev/null
+        got="$? $(echo count | "$bin/gdbmtool" -r t.gdbm)"
+        if [ "$load" = "$gnu_load" ]; then is "$what, GNU" "$gnus" "$got"; else is "$what, ours" "$ours" "$got"; fi
+    done
+}
+printf 'store k v\n' | "$bin/gdbmtool" -n one
+"$bin/gdbm_dump" one >one.txt
+both "a file that is there" '0 1' '0 1' one.txt t.gdbm
+both "an update" '3 1' '0 2' -U one.txt t.gdbm
+sed 's/count=1/count=2/' one.txt >two.txt
+both "a wrong count" '0 1' '1 1' two.txt t.gdbm
+sed '/count/,$d' one.txt >endless.txt
+both "no end" '0 1' '1 0' endless.txt t.gdbm
+head -c 50 one.txt >front.txt
+both "a front of a head" '0 0' '1 1' front.txt t.gdbm
+both "an empty value" '1 0' '0 3' empty.txt t.gdbm
+cp one.txt itself.txt
+"$gnu_load" itself.txt itself.txt >out 2>&1
+is "the database itself, GNU" 1 "$(if cmp -s one.txt itself.txt; then echo 0; else echo 1; fi)"
+cp one.txt itself.txt
+is "the database itself, ours" '1|gdbm_load: error 21 InUse' "$(told '' "$bin/gdbm_load" itself.txt itself.txt)"
+is "the database itself is kept, ours" 0 "$(if cmp -s one.txt itself.txt; then echo 0; else echo 1; fi)"
+sed 's/^#:version=1.1/&\n#:mode=640/' one.txt >mode.txt
+for row in "$gnu_load|one.txt|600" "$gnu_load|mode.txt|640" "$bin/gdbm_load|one.txt|644" "$bin/gdbm_load|mode.txt|644"; do
+    IFS='|' read -r load text wanted <<<"$row"
+    rm -f m.gdbm
+    (umask 022 && "$load" "$text" m.gdbm)
+    is "the permissions of $text by $load" "$wanted" "$(stat -c %a m.gdbm)"
+done
+for option in '-M' '-m 600' '-u root'; do
+    # shellcheck disable=SC2086
+    is "$option, ours" '3|gdbm_load: usage error' "$(told '' "$bin/gdbm_load" $option one.txt t.gdbm)"
+done
+rm -f one
+is "what is said of a new file, GNU" '0|gdbm_load: created one' "$(told '' "$gnu_load" one.txt)"
+is "what is said of a new file, ours" 0 "$(told '' "$bin/gdbm_load" one.txt)"
+"$gnu_dump" -H binary one one.bin
+both "GNU's binary dump" '0 1' '1 0' one.bin t.gdbm
 
 echo "differences: $passed passed, $failed failed"
 [ "$failed" = 0 ]

@@ -1,5 +1,6 @@
 pub mod Devices
 pub mod Dump
+pub mod Load
 pub mod Run
 pub mod Tool
 pub mod Words

@@ -11,6 +11,8 @@ use gd_base::{Clock, Sink, Source};
 use gd_dumping::dump_by_words;
 pub use gd_dumping::{Ending, report};
 pub use gd_host::{HostClock, HostSink, HostSource, HostVault, host_words};
+use gd_loader::load_run;
+pub use gd_loader::{RunEnd as LoadEnd, report as report_load};
 pub use gd_script::Turns;
 use gd_vault::Vault;
 pub use gd_words::Refusal as ToolRefusal;
@@ -25,16 +27,18 @@ pub enum Tool {
     Gdbmtool,
     /// `gdbm_dump [-H FORM] DB` prints the dump of a database file.
     Dump,
+    /// `gdbm_load [OPTION..] FILE [DB]` stores the pairs of a dump in a database.
+    Load,
 }
 
 /// What a run leaves beside what it wrote.
 #[derive(Debug, Drop)]
 pub struct Outcome {
-    /// The exit status, the first that holds: 3 for refused words; 1 for a device that failed, and for an absent or
-    /// unreadable file of `gdbm_dump`, or input of `gdbmtool` that is too long; 4 for want of memory; 2 for a command of
-    /// `gdbmtool` that was refused; 0.
+    /// The exit status, the first that holds: 3 for refused words; 1 for a device that failed, for an absent or unreadable
+    /// file of `gdbm_dump`, for a file, a dump or a pair that `gdbm_load` refuses, or for input that is too long; 4 for want
+    /// of memory; 2 for a command of `gdbmtool` that was refused; 0.
     pub status: u8,
-    /// The turns of `gdbmtool`, one an answered line; `gdbm_dump` has none.
+    /// The turns of `gdbmtool`, one an answered line; the other programs have none.
     pub turns: Turns,
 }
 
@@ -73,6 +77,10 @@ pub fn run<S: Source, O: Sink, E: Sink, V: Vault, C: Clock>(
         }
         Tool::Dump => Outcome {
             status: dump_by_words(alloc, words, out, err, vault),
+            turns: Turns::new(alloc),
+        },
+        Tool::Load => Outcome {
+            status: load_run(alloc, words, input, err, vault),
             turns: Turns::new(alloc),
         },
     }

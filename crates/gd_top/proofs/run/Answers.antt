@@ -13,3 +13,15 @@ returns-in-Dump-clause-runs g c = rw c.in-Dump.is record {
   clock_faults = refl;
   turns_none = c.new.ensures;
 }
+
+pub returns-in-Load-clause-runs : goal.returns-in-Load-clause-runs
+returns-in-Load-clause-runs g c = rw c.in-Load.is record {
+  usage = c.load_run.ensures.usage;
+  runs = c.load_run.ensures.runs;
+  quiet = c.load_run.ensures.quiet;
+  written = refl;
+  out_faults = refl;
+  told = refl;
+  clock_faults = refl;
+  turns_none = c.new-in-Load.ensures;
+}

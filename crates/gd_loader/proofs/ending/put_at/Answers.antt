@@ -1,0 +1,12 @@
+use Rattle.std.proofs.Common.{[], ◌∷◌, ◌++◌, codes}
+use Rattle.std.specs.Fmt.{decimal}
+use Rattle.gd_base.proofs.Waits.{pends-after, pends-front}
+use Rattle.gd_loader.proofs.ending.put_at.Goals as goal
+
+pub returns-in_err-put-clause-bytes : goal.returns-in_err-put-clause-bytes
+returns-in_err-put-clause-bytes g c =
+    pends-front _ c.from_residual.result _ _ _ _ (codes " at ") (decimal c.args.place ++ 10 ∷ []) c.from_residual.ensures.1 c.in_err-put.ensures.bytes
+
+pub returns-clause-bytes : goal.returns-clause-bytes
+returns-clause-bytes g c =
+    pends-after c.put_place.result _ _ _ _ _ _ (codes " at ") (decimal c.args.place ++ 10 ∷ []) c.in_ok-put.ensures.bytes c.put_place.ensures.bytes
