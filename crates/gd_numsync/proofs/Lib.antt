@@ -1,0 +1,7 @@
+mod Files
+mod Fronts
+mod Kept
+mod Renumbered
+mod Turned
+mod Pushed
+mod Shrunk
