@@ -1,10 +1,9 @@
 -- Which ends leave all counts of faults as they were.
-use Rattle.std.proofs.Common.{◌≡◌, ◌∙◌, ◌⊎◌, ⊎_elim, inl, inr, ap, sym, subst, refl, ℕ, List, length, Option, Some, None, Result, Ok, Err, Bool, true, false, arith}
+use Rattle.std.proofs.Common.{◌≡◌, ◌∙◌, ◌⊎◌, ⊎_elim, inl, inr, ap, sym, subst, refl, ℕ, length, Option, Some, None, Result, Ok, Err, Bool, true, false, arith}
 use Rattle.gd_base.specs.Causes.{Rose}
 use Rattle.gd_base.specs.Streams.{WritesFront, and_then}
 use Rattle.gd_base.specs.declared.errors.DbError.{DbError}
 use Rattle.gd_base.specs.declared.errors.DbError.TheVariants as errors
-use Rattle.gd_load.specs.declared.incoming.Stop.{Stop}
 use Rattle.gd_load.specs.declared.incoming.Stop.TheVariants as stops
 use Rattle.gd_loading.specs.Load.{ClosesAs, LoadsAs, LoadsBy, Ran, Scene, ends_by}
 use Rattle.gd_loading.specs.Loads.{CausedBy, is_broken_by}

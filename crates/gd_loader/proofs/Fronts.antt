@@ -1,7 +1,7 @@
 -- A file that is read page by page, and what was read as a source.
-use Rattle.std.proofs.Common.{◌≡◌, ◌∙◌, ap, ap₂, sym, subst, refl, ℕ, zero, suc, ◌+◌, ◌-◌, ◌^◌, ◌<◌, ◌≤◌, ◌⊎◌, ⊎_elim, min, List, [], ◌∷◌, ◌++◌, take, drop, length, Some, Result, Ok, Err, IfOk, arith}
+use Rattle.std.proofs.Common.{◌≡◌, ◌∙◌, ap, ap₂, sym, subst, refl, ℕ, zero, suc, ◌+◌, ◌-◌, ◌^◌, ◌<◌, ◌≤◌, min, List, [], ◌∷◌, ◌++◌, take, drop, length, Some, Result, Ok, Err, IfOk, arith}
 use Rattle.std.proofs.Math.Seq.{take-add, take-append_seam}
-use Rattle.std.proofs.lemmas.List.{append-nil, drop-drop, drop_all, length-take, take_min, take_rest, take-append-drop}
+use Rattle.std.proofs.lemmas.List.{drop-drop, drop_all, length-take, take_min, take_rest, take-append-drop}
 use Rattle.gd_base.specs.declared.errors.Failed.{Failed}
 use Rattle.gd_vault.specs.Views.{OnlyAsks, ReadAt, View}
 use Rattle.gd_loader.specs.Held.{AtFile, IsFront, readable_front}

@@ -1,6 +1,5 @@
 -- The run of the loader.
 use Rattle.std.specs.Prelude.{◌≡◌, ◌⊎◌, ℕ, ◌^◌, ◌≤◌, Bool, true, false, List, length, Option, Some, None}
-use Rattle.gd_base.specs.Causes.{Rose}
 use Rattle.gd_base.specs.declared.errors.DbError.{DbError}
 use Rattle.gd_base.specs.declared.errors.DbError.TheVariants as errors
 use Rattle.gd_dump_reading.specs.declared.items.DumpKind.TheVariants.{Parameter}

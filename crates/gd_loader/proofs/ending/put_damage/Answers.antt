@@ -1,4 +1,4 @@
-use Rattle.std.proofs.Common.{◌++◌, codes}
+use Rattle.std.proofs.Common.{codes}
 use Rattle.gd_loader.specs.Ends.{place_text}
 use Rattle.gd_base.proofs.Waits.{pends-after, pends-front}
 use Rattle.gd_loader.proofs.ending.put_damage.Goals as goal

@@ -1,4 +1,4 @@
-use Rattle.std.proofs.Common.{◌≡◌, ◌∙◌, ap, sym, subst, Bool, Ok}
+use Rattle.std.proofs.Common.{◌∙◌, ap, sym, subst, Bool, Ok}
 use Rattle.gd_vault.specs.Views.{content_of}
 use Rattle.gd_loader.specs.Held.{ReadsOn}
 use Rattle.gd_loader.proofs.Fronts.{asks_on}
