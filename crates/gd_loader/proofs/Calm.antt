@@ -209,11 +209,13 @@ calm_read plan db file end u v h calm =
     one.1 ∙ h.count
 
 calm_file : (plan : Plan) (db : Option Text) (file : Text) (end : RunEnd) (old new : Scene) → FromFile plan db file end old new → IsCalm end → NoneRose old new
-calm_file plan db file end old new h calm =
-    (h.count, ⊎_elim
-    (λ (a : Unread file end old.view new.view). calm_unread file end old.view new.view a calm)
-    (λ (a : Read plan db file end old.view new.view). calm_read plan db file end old.view new.view a calm)
-    h.reads)
+calm_file plan db file end old new h calm = (
+  h.count,
+  ⊎_elim
+      (λ (a : Unread file end old.view new.view). calm_unread file end old.view new.view a calm)
+      (λ (a : Read plan db file end old.view new.view). calm_read plan db file end old.view new.view a calm)
+      h.reads,
+)
 
 calm_from : (input : Option Text) (plan : Plan) (db : Option Text) (end : RunEnd) (old new : Scene) → From input plan db end old new → IsCalm end → NoneRose old new
 calm_from None plan db end old new h calm = calm_loads plan db None old new h.load h.loads (subst IsCalm h.is calm)
